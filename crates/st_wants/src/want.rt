@@ -1,0 +1,61 @@
+ghost use Rattle.std.specs.Prelude.{◌≡◌, IfOk};
+ghost use Rattle.st_wants.specs.declared.want.Want.{Want};
+ghost use Rattle.st_wants.specs.Wants.{compatible, mode_of, pools_differ};
+
+use st_units::{Name, NoMemory};
+
+/// What is done with what a want covers.
+#[derive(Debug, Clone, Copy, PartialEq, Eq, Drop)]
+pub enum Mode {
+    Read,
+    Write,
+}
+
+/// What a ticket asks for: one pool by its name, or all pools and the table of pools.
+#[derive(Drop)]
+pub enum Want {
+    Some(Name, Mode),
+    All(Mode),
+}
+
+impl Want {
+    /// A copy, which may be refused for want of memory alone.
+    pub fn copy(&self) -> Result<Want, NoMemory>
+        ensures { IfOk result (λ w. w ≡ self.now) }
+    {
+        match self {
+            Want::Some(name, mode) => Ok(Want::Some(name.copy()?, *mode)),
+            Want::All(mode) => Ok(Want::All(*mode)),
+        }
+    }
+
+    pub fn mode(&self) -> Mode
+        ensures { result ≡ mode_of self.now }
+    {
+        match self {
+            Want::Some(_, mode) | Want::All(mode) => *mode,
+        }
+    }
+}
+
+/// Whether both may be granted at one time: both read, or both name one pool and the names
+/// differ.
+pub fn compatible(a: &Want, b: &Want) -> bool
+    ensures { result ≡ compatible a.now b.now }
+{
+    (a.mode() == Mode::Read && b.mode() == Mode::Read) || name_different_pools(a, b)
+}
+
+fn name_different_pools(a: &Want, b: &Want) -> bool
+    ensures { result ≡ pools_differ a.now b.now }
+{
+    match (a, b) {
+        (Want::Some(p, _), Want::Some(q, _)) => p.bytes() != q.bytes(),
+        (Want::Some(_, _), Want::All(_)) | (Want::All(_), _) => false,
+    }
+}
+
+/// The order of the two wants doesn't count.
+pub fn compatible_is_symmetric()
+    ensures { (a b : Want) → compatible a b ≡ compatible b a }
+{}
