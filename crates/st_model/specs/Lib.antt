@@ -1,0 +1,15 @@
+pub mod Answer
+
+pub mod Laws
+
+pub mod Look
+
+pub mod Step
+
+pub mod Sums
+
+pub mod Valid
+
+pub mod Wanted
+
+pub mod steps
