@@ -1,5 +1,7 @@
 pub mod Answer
 
+pub mod History
+
 pub mod Laws
 
 pub mod Look

@@ -4,6 +4,7 @@
 mod answer;
 mod call;
 mod entry;
+mod gate;
 mod info;
 mod look;
 mod number_map;
@@ -15,6 +16,7 @@ mod wanted;
 pub use answer::code_of;
 pub use call::{Call, Payload, PoolId};
 pub use entry::{Entry, EntryList, Env, Event, Log, Origin};
+pub use gate::{Gate, NoGate};
 pub use info::{CacheInfo, FsInfo, FsInfoList, Infos, PoolInfo, ShownMode, StoppedList, StoppedRow, TableInfo};
 pub use number_map::NumberMap;
 pub use reply::{Given, Identity, NewFs, Reply};
