@@ -1,1 +1,7 @@
 pub mod Distinct
+
+pub mod Lists
+
+pub mod ValidCreate
+
+pub mod Validity
