@@ -11,7 +11,7 @@ use Rattle.st_lines.specs.Lines.{is_feed, no_empty_last, lines_of}
 use Rattle.st_lines.specs.Spans.{line_at, LiesIn}
 use Rattle.st_lines.specs.declared.lines.Span.{Span}
 
-no_empty_last-cons : (line : List ℕ) (pieces : List (List ℕ)) → 0 < length pieces → no_empty_last (line ∷ pieces) ≡ line ∷ no_empty_last pieces
+pub no_empty_last-cons : (line : List ℕ) (pieces : List (List ℕ)) → 0 < length pieces → no_empty_last (line ∷ pieces) ≡ line ∷ no_empty_last pieces
 no_empty_last-cons line [] h = absurd (omega arith)
 no_empty_last-cons [] (piece ∷ pieces) h = refl
 no_empty_last-cons (byte ∷ line) (piece ∷ pieces) h = refl
