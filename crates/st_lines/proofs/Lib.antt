@@ -1,0 +1,5 @@
+pub mod Bare
+pub mod Cuts
+pub mod Joined
+pub mod Known
+pub mod Progress
