@@ -1,0 +1,6 @@
+pub mod Story
+pub mod Device
+pub mod Calls
+pub mod Moments
+pub mod Parts
+pub mod Steps
