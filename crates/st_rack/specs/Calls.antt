@@ -5,7 +5,7 @@ use Rattle.std.specs.Cmp.Lexicographic.{slice_cmp}
 use Rattle.std.specs.Str.{bytes_eq}
 use Rattle.std.specs.List.{list_any}
 use Rattle.std.specs.List.Sorted.{IsStrictlySortedBy}
-use Rattle.st_rack.specs.Device.{Path, State}
+use Rattle.st_rack.specs.Device.{Path}
 
 -- devices and their sectors, in order
 abbrev pub Devices : Type 0

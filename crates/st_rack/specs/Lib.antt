@@ -4,3 +4,4 @@ pub mod Calls
 pub mod Moments
 pub mod Parts
 pub mod Steps
+pub mod Readers

@@ -1,5 +1,5 @@
 -- What a device was told, what it was meant to hold, and when what is read from it is no accident.
-use Rattle.std.specs.Prelude.{◌≡◌, ◌⊎◌, ℕ, ◌+◌, ◌-◌, ◌*◌, Bool, false, ◌&&◌, ◌||◌, nat_le, nat_lt, List, length, get_or, Option, None, if◌then◌else◌}
+use Rattle.std.specs.Prelude.{◌≡◌, ◌⊎◌, ℕ, ◌+◌, ◌-◌, Bool, false, ◌&&◌, ◌||◌, nat_le, nat_lt, List, length, get_or, Option, None, if◌then◌else◌}
 
 -- each byte of a device, by its offset
 abbrev pub Content : Type 0
