@@ -14,5 +14,5 @@ pub use lines::Lines;
 pub use memory::{MemorySink, MemorySource};
 pub use outlet::Outlet;
 pub use put::put_all;
-pub use read::{Limit, ReadStop, read_lines};
+pub use read::{Limit, MOST_BYTES, ReadStop, read_lines};
 pub use stream::{Failed, Reading, Sink, Source, Writing};
