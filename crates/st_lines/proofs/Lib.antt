@@ -3,3 +3,4 @@ pub mod Cuts
 pub mod Joined
 pub mod Known
 pub mod Progress
+pub mod Prefix

@@ -4,6 +4,7 @@
 mod laws;
 mod lines;
 mod memory;
+mod outlet;
 mod put;
 mod read;
 mod stream;
@@ -11,6 +12,7 @@ mod stream;
 pub use laws::lines_give_back;
 pub use lines::Lines;
 pub use memory::{MemorySink, MemorySource};
+pub use outlet::Outlet;
 pub use put::put_all;
-pub use read::{Limit, ReadStop, read_lines};
+pub use read::{Limit, MOST_BYTES, ReadStop, read_lines};
 pub use stream::{Failed, Reading, Sink, Source, Writing};

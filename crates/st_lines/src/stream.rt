@@ -53,8 +53,8 @@ pub struct Reading<R> {
 
 impl<R: Read> Reading<R> {
     pub fn new(inner: R) -> Self
-        ensures reader { result.inner ≡ inner }
-        ensures faults { result.faults ≡ 0 }
+        ensures left { ⟦<Reading<R> as Source>⟧.left result ≡ R.remaining inner }
+        ensures faults { ⟦<Reading<R> as Source>⟧.faults result ≡ 0 }
     {
         Reading { inner, faults: 0 }
     }
@@ -85,8 +85,8 @@ pub struct Writing<W> {
 
 impl<W: Write> Writing<W> {
     pub fn new(inner: W) -> Self
-        ensures writer { result.inner ≡ inner }
-        ensures faults { result.faults ≡ 0 }
+        ensures held { ⟦<Writing<W> as Sink>⟧.held result ≡ W.contents inner }
+        ensures faults { ⟦<Writing<W> as Sink>⟧.faults result ≡ 0 }
     {
         Writing { inner, faults: 0 }
     }
