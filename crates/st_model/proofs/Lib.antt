@@ -1,4 +1,8 @@
+pub mod Built
+
 pub mod Distinct
+
+pub mod Histories
 
 pub mod Lists
 

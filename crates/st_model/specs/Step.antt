@@ -1,5 +1,5 @@
 -- what a call answers, and what it leaves
-use Rattle.std.specs.Prelude.{ℕ, ◌≡◌, List, Option, Some, None, Bool, true, is_some, unwrap_or}
+use Rattle.std.specs.Prelude.{ℕ, ◌≡◌, List, Option, Some, None, Bool, true, false, is_some, unwrap_or}
 use Rattle.st_units.specs.declared.cause.Cause.TheVariants.{OutOfMemory}
 use Rattle.st_model.specs.declared.call.Call.{Call}
 use Rattle.st_model.specs.declared.call.Call.TheVariants.{CreatePool, EngineStateReport}
@@ -16,6 +16,12 @@ abbrev pub outcome : EngineState → Call → Env → Option (Reply × EngineSta
 outcome s (CreatePool name devices) env = create_pool s name devices env
 outcome s EngineStateReport env = engine_state_report s env
 outcome s _ env = None
+
+-- the calls that are built
+abbrev pub is_built : Call → Bool
+is_built (CreatePool name devices) = true
+is_built EngineStateReport = true
+is_built _ = false
 
 -- where a call may meet that
 abbrev pub IsLicensed : EngineState → Call → Env → Type 0
