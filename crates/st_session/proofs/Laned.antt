@@ -1,0 +1,139 @@
+-- one seat that runs one line after the other keeps the lane order
+use Rattle.std.proofs.Common.{◌≡◌, ◌≢◌, ℕ, ◌+◌, ◌==◌, ◌<◌, ◌≤◌, ◌⊎◌, inl, inr, List, [], ◌∷◌, ◌++◌, length, Option, Some, Ok, Bool, true, false, cond, refl, sym, ap, ◌∙◌, subst, arith}
+use Rattle.std.proofs.lemmas.Grind.{common_steps}
+use Rattle.std.proofs.lemmas.Option.{slice_get_within}
+use Rattle.std.specs.Prelude.{slice_get, ◌↔◌}
+use Rattle.st_units.specs.Roomy.{Roomy}
+use Rattle.st_wants.specs.declared.want.Want.{Want}
+use Rattle.st_model.specs.declared.entry.Entry.{Entry}
+use Rattle.st_model.specs.declared.entry.Event.{Event}
+use Rattle.st_model.specs.declared.entry.Event.TheVariants.{Arrive}
+use Rattle.st_model.specs.declared.entry.Origin.TheVariants.{Line}
+use Rattle.st_calls.proofs.Given.{form-IsCall}
+use Rattle.st_session.specs.Entries.{entries_of, count_from, StandsAt}
+use Rattle.st_session.specs.LaneOrder.{IsLineCall, IsOfLine, LaneOrder}
+use Rattle.st_session.proofs.Logs.{call_events, entries_of-call, count_from-call, IsNew, stands_more, arrives_more}
+
+-- an entry of a line up to i, by seat 1 and with a ticket below k
+pub record IsKnown (lines : List (List ℕ)) (i k seat ticket : ℕ) (e : Entry) : Type 0 where
+  pub n : ℕ
+  pub from : e.from ≡ Line n
+  pub low : n ≤ i
+  pub seat_is : seat ≡ 1
+  pub below : ticket < k
+  pub lane : ℕ
+  pub call : IsLineCall 1 lines n lane e.call
+
+-- what holds of the log after i lines, of which k were run
+pub record IsLaned (lines : List (List ℕ)) (i k : ℕ) (log : List Event) : Type 0 where
+  pub known : (place seat ticket : ℕ) (e : Entry) → StandsAt log place seat ticket e → IsKnown lines i k seat ticket e
+  pub arrivals : (place seat ticket : ℕ) (want : Want) → slice_get log place ≡ Some (Arrive seat ticket want) → ticket < k
+  pub later : (m : ℕ) → i < m → count_from m (entries_of log) ≡ 0
+  pub once : (m : ℕ) → count_from m (entries_of log) ≤ 1
+  pub order : (a b p s u t v m n c d : ℕ) (e f : Entry) (want : Want) → IsOfLine 1 lines log a s t m c e → IsOfLine 1 lines log b u v n d f → m < n → slice_get log p ≡ Some (Arrive u v want) → a < p
+
+pub laned_start : (lines : List (List ℕ)) → IsLaned lines 0 0 []
+laned_start lines = record {
+  known = λ place seat ticket e h. absurd (nothing _ place h.at);
+  arrivals = λ place seat ticket want h. absurd (nothing _ place h);
+  later = λ m h. refl;
+  once = λ m. omega arith;
+  order = λ a b p s u t v m n c d e f want g h lt at. absurd (nothing _ p at);
+}
+  where
+    nothing : (x : Event) (place : ℕ) → slice_get [] place ≡ Some x → ⊥
+    nothing x place h = absurd cc
+
+-- a line that isn't run
+pub laned_skip : (lines : List (List ℕ)) (i k : ℕ) (log : List Event) → IsLaned lines i k log → IsLaned lines (i + 1) k log
+laned_skip lines i k log h = record {
+  known = λ place seat ticket e g. (let x = h.known place seat ticket e g in record { n = x.n; from = x.from; low = omega (arith, x.low); seat_is = x.seat_is; below = x.below; lane = x.lane; call = x.call });
+  arrivals = h.arrivals;
+  later = λ m g. h.later m (omega (arith, g));
+  once = h.once;
+  order = h.order;
+}
+
+at_most_one : (b : Bool) → cond b 1 0 ≤ 1
+at_most_one true = omega arith
+at_most_one false = omega arith
+
+other_line : (i m : ℕ) → i + 1 < m → (i + 1 == m) ≡ false
+other_line i m h = grind (arith, common_steps)
+
+one_more : (b : Bool) (c i m : ℕ) → (i + 1 == m) ≡ b → (i < m → c ≡ 0) → c ≤ 1 → c + cond b 1 0 ≤ 1
+one_more true c i m e none few = let same : i + 1 ≡ m = grind (arith, common_steps) in let zero_then : c ≡ 0 = none (omega (arith, same)) in omega (arith, zero_then)
+one_more false c i m e none few = omega (arith, few)
+
+line_number : (m n : ℕ) (e : Entry) → e.from ≡ Line m → e.from ≡ Line n → m ≡ n
+line_number m n e g h = cc
+
+-- a line that is run, whose call is e's
+module _ (lines : List (List ℕ)) (i k : ℕ) (log : List Event) (want : Want) (entries : Roomy Entry) (e : Entry) (alone : entries.items ≡ e ∷ []) (from : e.from ≡ Line (i + 1)) (lane : ℕ) (call : IsLineCall 1 lines (i + 1) lane e.call) (h : IsLaned lines i k log) where
+  abbrev new : List Event
+  new = log ++ call_events 1 k want entries
+
+  known_more : (place s t : ℕ) (x : Entry) → StandsAt log place s t x ⊎ IsNew log 1 k e place s t x → IsKnown lines (i + 1) (k + 1) s t x
+  known_more place s t x (inl g) = let y = h.known place s t x g in record { n = y.n; from = y.from; low = omega (arith, y.low); seat_is = y.seat_is; below = omega (arith, y.below); lane = y.lane; call = y.call }
+  known_more place s t x (inr g) = record {
+    n = i + 1;
+    from = rw g.entry_is from;
+    low = omega arith;
+    seat_is = g.seat_is;
+    below = omega (arith, g.ticket_is);
+    lane = lane;
+    call = rw g.entry_is call;
+  }
+
+  arrivals_more : (place s t : ℕ) (w : Want) → (slice_get log place ≡ Some (Arrive s t w)) ⊎ ((place ≡ length log) × (t ≡ k)) → t < k + 1
+  arrivals_more place s t w (inl g) = let old = h.arrivals place s t w g in omega (arith, old)
+  arrivals_more place s t w (inr g) = omega (arith, g.1)
+
+  order_more : (a b p s u t v m n c d : ℕ) (x f : Entry) (w : Want) → x.from ≡ Line m → IsLineCall 1 lines m c x.call → f.from ≡ Line n → IsLineCall 1 lines n d f.call → m < n
+      → StandsAt log a s t x ⊎ IsNew log 1 k e a s t x → StandsAt log b u v f ⊎ IsNew log 1 k e b u v f → (slice_get log p ≡ Some (Arrive u v w)) ⊎ ((p ≡ length log) × (v ≡ k)) → a < p
+  order_more a b p s u t v m n c d x f w xm xc fn fc lt (inl g) (inl o) (inl at) =
+      h.order a b p s u t v m n c d x f w (record { stands = g; from = xm; call = xc }) (record { stands = o; from = fn; call = fc }) lt at
+  order_more a b p s u t v m n c d x f w xm xc fn fc lt (inl g) (inl o) (inr at) =
+      let y = h.known b u v f o in absurd (omega (arith, y.below, at.1))
+  order_more a b p s u t v m n c d x f w xm xc fn fc lt (inl g) (inr o) (inl at) =
+      let old = h.arrivals p u v w at in absurd (omega (arith, old, o.ticket_is))
+  order_more a b p s u t v m n c d x f w xm xc fn fc lt (inl g) (inr o) (inr at) =
+      let inside = slice_get_within log a _ g.at in omega (arith, inside, at.0)
+  order_more a b p s u t v m n c d x f w xm xc fn fc lt (inr g) (inl o) at =
+      let y = h.known b u v f o in
+      let here : m ≡ i + 1 = line_number m (i + 1) x xm (rw g.entry_is from) in
+      let there : n ≡ y.n = line_number n y.n f fn y.from in
+      absurd (omega (arith, lt, here, there, y.low))
+  order_more a b p s u t v m n c d x f w xm xc fn fc lt (inr g) (inr o) at =
+      let here : m ≡ i + 1 = line_number m (i + 1) x xm (rw g.entry_is from) in
+      let there : n ≡ i + 1 = line_number n (i + 1) f fn (rw o.entry_is from) in
+      absurd (omega (arith, lt, here, there))
+
+  counted : (m : ℕ) → count_from m (entries_of new) ≡ count_from m (entries_of log) + cond (i + 1 == m) 1 0
+  counted m = ap (count_from m) (entries_of-call log 1 k want entries e alone) ∙ count_from-call m (i + 1) (entries_of log) e from
+
+  pub laned_call : IsLaned lines (i + 1) (k + 1) new
+  laned_call = record {
+    known = λ place s t x g. known_more place s t x (stands_more log 1 k want entries e place s t x alone g);
+    arrivals = λ place s t w g. arrivals_more place s t w (arrives_more log 1 k want w entries place s t g);
+    later = λ m g. counted m ∙ (let none = h.later m (omega (arith, g)) in let other : cond {A = ℕ} (i + 1 == m) 1 0 ≡ 0 = rw (other_line i m g) refl in omega (arith, none, other));
+    once = λ m. subst (λ (c : ℕ). c ≤ 1) (sym (counted m)) (one_more (i + 1 == m) (count_from m (entries_of log)) i m refl (h.later m) (h.once m));
+    order = λ a b p s u t v m n c d x f w g o lt at.
+      order_more a b p s u t v m n c d x f w g.from g.call o.from o.call lt (stands_more log 1 k want entries e a s t x alone g.stands) (stands_more log 1 k want entries e b u v f alone o.stands) (arrives_more log 1 k want w entries p u v at);
+  }
+
+-- on one lane each call's lane is 0
+lane_zero : (lines : List (List ℕ)) (n lane : ℕ) (e : Entry) → IsLineCall 1 lines n lane e.call → lane ≡ 0
+lane_zero lines n lane e h = let known = form-IsCall 1 lane e.call h.line (omega arith) h.read in omega (arith, known.below)
+
+pub laned-LaneOrder : (lines : List (List ℕ)) (i k : ℕ) (log : List Event) → IsLaned lines i k log → LaneOrder 1 lines log
+laned-LaneOrder lines i k log h = record {
+  once = h.once;
+  calls = λ place s t n e g from. (let x = h.known place s t e g in (x.lane, rw (line_number n x.n e from x.from) x.call));
+  seats = λ a b s u t v m n c d e f g o.
+    (λ same. (h.known a s t e g.stands).seat_is ∙ sym (h.known b u v f o.stands).seat_is,
+     λ same. lane_zero lines m c e g.call ∙ sym (lane_zero lines n d f o.call));
+  apart = λ place s t n lane e g zero_seat. (let one = (h.known place s t e g.stands).seat_is in absurd (omega (arith, one, zero_seat)));
+  order = λ a b p s u t v m n c e f w g o lt at. h.order a b p s u t v m n c c e f w g o lt at;
+  no_other = λ place s t e g. (let x = h.known place s t e g in (x.n, x.from));
+}

@@ -1,0 +1,7 @@
+pub mod Laned
+
+pub mod Logs
+
+pub mod Places
+
+pub mod Steps

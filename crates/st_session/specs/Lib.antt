@@ -1,0 +1,7 @@
+pub mod Entries
+
+pub mod LaneOrder
+
+pub mod Opening
+
+pub mod Running

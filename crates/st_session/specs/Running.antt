@@ -1,0 +1,70 @@
+-- what a run of lines has made of its state, its log and its answers
+use Rattle.std.specs.Prelude.{ℕ, ◌≡◌, ◌+◌, ◌<◌, ◌≤◌, List, [], ◌∷◌, ◌++◌, length, Option, Some, None, Ok, Err, slice_get}
+use Rattle.st_units.specs.Roomy.{Roomy}
+use Rattle.st_model.specs.declared.call.Call.{Call}
+use Rattle.st_model.specs.declared.entry.Entry.{Entry}
+use Rattle.st_model.specs.declared.entry.Event.{Event}
+use Rattle.st_model.specs.declared.entry.Event.TheVariants.{Arrive, Grant, Release}
+use Rattle.st_model.specs.declared.entry.Origin.TheVariants.{Line}
+use Rattle.st_model.specs.declared.state.EngineState.{EngineState}
+use Rattle.st_model.specs.Step.{IsLicensed, step}
+use Rattle.st_model.specs.Wanted.{want_of}
+use Rattle.st_calls.specs.Form.{form}
+use Rattle.st_session.specs.Entries.{entries_of, entry_of}
+use Rattle.st_session.specs.declared.session.Answer.{Answer}
+use Rattle.st_session.specs.declared.session.Answer.TheVariants.{Ran, Fault, Refused}
+use Rattle.st_session.specs.declared.session.Session.{Session}
+
+-- the entry of line n's call, as the engine answers it in this state
+pub record IsEntryOf (s : EngineState) (n : ℕ) (call : Call) (e : Entry) : Type 0 where
+  pub call_is : e.call ≡ call
+  pub from_is : e.from ≡ Line n
+  pub licensed : IsLicensed s e.call e.env
+  pub replied : e.reply ≡ (step s e.call e.env).0
+
+-- what a call that is run under its own grant leaves in the log
+abbrev pub events_of : ℕ → Roomy Entry → Call → List Event
+events_of ticket entries call = Arrive 1 ticket (want_of call) ∷ Grant 1 ticket ∷ Release 1 ticket entries ∷ []
+
+-- the session ran the call of line n
+pub record RanCall (n : ℕ) (call : Call) (old new : Session) (place : ℕ) : Type 0 where
+  pub entry : Entry
+  pub entries : Roomy Entry
+  pub alone : entries.items ≡ entry ∷ []
+  pub is_due : IsEntryOf old.state n call entry
+  pub state : new.state ≡ (step old.state entry.call entry.env).1
+  pub log : new.log.items ≡ old.log.items ++ events_of old.tickets entries call
+  pub tickets : new.tickets ≡ old.tickets + 1
+  pub released : place ≡ length old.log.items + 2
+
+-- nothing ran
+pub record Stayed (old new : Session) : Type 0 where
+  pub state : new.state ≡ old.state
+  pub log : new.log.items ≡ old.log.items
+  pub tickets : new.tickets ≡ old.tickets
+
+-- what became of line n
+abbrev pub Answered : ℕ → ℕ → List ℕ → Session → Session → Answer → Type 0
+Answered lanes n line old new (Ran place) = (lane : ℕ) × (call : Call) × (form lanes line ≡ Ok (lane, call)) × RanCall n call old new place
+Answered lanes n line old new (Fault fault) = (form lanes line ≡ Err fault) × Stayed old new
+Answered lanes n line old new Refused = (lane : ℕ) × (call : Call) × (form lanes line ≡ Ok (lane, call)) × Stayed old new
+
+-- the release at that place holds line n's entry alone
+pub record IsRelease (n : ℕ) (log : List Event) (place : ℕ) : Type 0 where
+  pub seat : ℕ
+  pub ticket : ℕ
+  pub entries : Roomy Entry
+  pub entry : Entry
+  pub at : slice_get log place ≡ Some (Release seat ticket entries)
+  pub alone : entries.items ≡ entry ∷ []
+  pub found : entry_of n (entries_of log) ≡ Some entry
+
+-- what the answer says of line n and the log is so
+abbrev pub IsAnswer : ℕ → ℕ → List ℕ → List Event → Answer → Type 0
+IsAnswer lanes n line log (Ran place) = IsRelease n log place
+IsAnswer lanes n line log (Fault fault) = (form lanes line ≡ Err fault) × (entry_of n (entries_of log) ≡ None)
+IsAnswer lanes n line log Refused = (lane : ℕ) × (call : Call) × (form lanes line ≡ Ok (lane, call)) × (entry_of n (entries_of log) ≡ None)
+
+-- each line's answer is so, line n's being the answer at place n - 1
+abbrev pub AreAnswers : ℕ → List (List ℕ) → List Event → List Answer → Type 0
+AreAnswers lanes lines log answers = (i : ℕ) (line : List ℕ) (answer : Answer) → slice_get lines i ≡ Some line → slice_get answers i ≡ Some answer → IsAnswer lanes (i + 1) line log answer
