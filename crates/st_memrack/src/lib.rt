@@ -1,0 +1,8 @@
+//! Racks in memory.
+#![tactic(auto)]
+
+
+mod slab;
+
+
+pub use slab::Slab;
