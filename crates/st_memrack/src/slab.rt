@@ -33,13 +33,13 @@ impl Slab {
     ghost use Rattle.st_rack.specs.Story.{Content};
     ghost use Rattle.st_rack.specs.Device.{cells, Touched, Written, Synced, Cut};
     ghost use Rattle.st_memrack.specs.Slab.{slab_path, slab_size, slab_state};
-    ghost use Rattle.st_memrack.specs.Blank.{blank_device};
+    ghost use Rattle.st_slabs.specs.Shelf.{no_device};
 
     /// A device of zeros.
     pub fn blank(alloc: Global, path: &DevPath, sectors: u64) -> Result<Slab, NoMemory>
         ensures path { IfOk result (λ s. slab_path s ≡ path.now) }
         ensures size { IfOk result (λ s. slab_size s ≡ sectors) }
-        ensures state { IfOk result (λ s. slab_state s ≡ blank_device) }
+        ensures state { IfOk result (λ s. slab_state s ≡ no_device) }
         ensures reads { IfOk result (λ s. s.reads ≡ 0) }
     {
         let path = path.copy()?;
