@@ -1,0 +1,39 @@
+ghost use Rattle.std.specs.Prelude.{◌≡◌, ◌+◌, ◌*◌, ◌%◌, ◌^◌, IfOk, string_bytes};
+ghost use Rattle.std.specs.Int.{to_be_bytes, w128};
+ghost use Rattle.st_report.specs.Uuids.{uuid_of, uuid_text};
+
+use st_model::Identity;
+use st_units::NoMemory;
+use std::alloc::Global;
+use uuid::Uuid;
+
+/// The low half of a pool's UUID: its kind byte, 1, and no serial.
+const POOL_KIND: u64 = 0x0100_0000_0000_0000;
+
+/// The low half of a filesystem's UUID: its kind byte, 2, with room for a serial below it.
+const FILESYSTEM_KIND: u64 = 0x0200_0000_0000_0000;
+
+/// How many serials fit below a kind byte. A filesystem's serial is far below that.
+const SERIALS: u64 = 0x0100_0000_0000_0000;
+
+fn uuid_of(identity: Identity) -> Uuid
+    ensures { result ≡ to_be_bytes w128 (uuid_of identity) }
+{
+    match identity {
+        Identity::Pool(pool) => Uuid::from_u64_pair(pool.number(), POOL_KIND),
+        Identity::Filesystem(pool, serial) => {
+            Uuid::from_u64_pair(pool.number(), FILESYSTEM_KIND + serial % SERIALS)
+        }
+    }
+}
+
+/// The identity as a UUID: hyphenated, in lower case.
+#[tactic(auto, unfolding(crate::specs::Uuids::uuid_text))]
+pub fn uuid_text(alloc: Global, identity: Identity) -> Result<String, NoMemory>
+    ensures { IfOk result (λ text. string_bytes text ≡ uuid_text identity) }
+{
+    let mut buffer = Uuid::encode_buffer();
+    let id = uuid_of(identity);
+    let text = id.hyphenated().encode_lower(&mut buffer);
+    Ok(String::from_str(alloc, text)?)
+}
