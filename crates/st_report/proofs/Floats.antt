@@ -50,7 +50,7 @@ no_float-pool_rows [] rows = no_float-map stopped_row no_float-stopped rows
 no_float-pool_rows (info ∷ infos) rows =
     let n = place_among_stopped rows info.name in
     let rest : items_have_float (items_of (started_row info ∷ pool_rows infos (drop n rows))) ≡ false =
-        rw (no_float-started info) (no_float-pool_rows infos (drop n rows)) in
+    rw (no_float-started info) (no_float-pool_rows infos (drop n rows)) in
     no_float-append (map stopped_row (take n rows)) (started_row info ∷ pool_rows infos (drop n rows)) (no_float-map stopped_row no_float-stopped (take n rows)) rest
 
 pub no_float-engine : (table : TableInfo) (infos : List PoolInfo) → has_float (engine_data table infos) ≡ false

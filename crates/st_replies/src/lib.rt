@@ -1,0 +1,10 @@
+//! Replies as JSON values, and the lines that answer a script.
+#![tactic(auto)]
+
+mod line;
+mod result;
+mod text;
+mod value;
+
+pub use line::{Summary, not_built_line, reply_line, summary_line};
+pub use value::reply_value;
