@@ -1,4 +1,5 @@
 ghost use Rattle.std.specs.Prelude.{◌≡◌, ◌<◌, ◌^◌, ◌-◌, ◌↔◌, IfErr, IfOk, IfSome, IfNone, IsSomeAnd, IsSome, IsTrue, OnErr, OnOk, [], Some};
+ghost use Rattle.st_grants.specs.Order.{IsLeastTicket};
 ghost use Rattle.st_wants.specs.Lock.{IsFree, IsLeastBlocker, IsLive, IsWaiting, arrived, granted, released, row_at, start};
 
 use crate::rows::{find_blocker, find_row, mark, remove_row};
@@ -102,6 +103,37 @@ impl Grants {
         ensures { self.new ≡ released ticket self.old }
     {
         remove_row(&mut self.rows, ticket);
+    }
+
+    /// Whether the ticket arrived and isn't granted yet.
+    pub fn is_waiting(&self, ticket: u64) -> bool
+        ensures { IsTrue result ↔ IsWaiting self.now ticket }
+    {
+        match find_row(&self.rows, ticket) {
+            Some(row) => !row.live,
+            None => false,
+        }
+    }
+
+    /// Whether the ticket is granted and isn't released yet.
+    pub fn is_live(&self, ticket: u64) -> bool
+        ensures { IsTrue result ↔ IsLive self.now ticket }
+    {
+        match find_row(&self.rows, ticket) {
+            Some(row) => row.live,
+            None => false,
+        }
+    }
+
+    /// The least ticket that isn't released, if there is one.
+    pub fn unreleased(&self) -> Option<u64>
+        ensures none { IfNone result (self.now.rows ≡ []) }
+        ensures some { IfSome result (IsLeastTicket self.now.rows) }
+    {
+        match self.rows.first() {
+            Some(row) => Some(row.ticket),
+            None => None,
+        }
     }
 
     /// The seat that a ticket which isn't released arrived by.

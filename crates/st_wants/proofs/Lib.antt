@@ -1,1 +1,2 @@
 pub mod Symmetry
+pub mod Turns
