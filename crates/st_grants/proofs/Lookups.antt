@@ -5,9 +5,9 @@ use Rattle.std.specs.List.{AllByRecursion}
 use Rattle.std.proofs.lemmas.Bool.Decides.{nat_tests}
 use Rattle.std.proofs.lemmas.List.Folds.{find-append}
 use Rattle.st_wants.specs.declared.row.LockRow.{LockRow}
-use Rattle.std.specs.Prelude.{IfSome, IsSomeAnd}
+use Rattle.std.specs.Prelude.{IsSome, slice_get}
 use Rattle.st_wants.specs.Lock.{Lock, row_at, has_ticket, keeps_back, marked, Blocks, IsFree, IsLeastBlocker}
-use Rattle.st_grants.specs.Order.{IsOrdered}
+use Rattle.st_grants.specs.Order.{IsOrdered, IsLeastTicket}
 
 -- what a search finds passes the test
 pub find_passes : {X : Type 0} (p : X → Bool) (xs : List X) (x : X) → find p xs ≡ Some x → p x ≡ true
@@ -129,3 +129,25 @@ pub not_back : (l : Lock) (t u : ℕ) (own q : LockRow) → IsFree l t → row_a
 not_back l t u own q free at hu =
     let cases : (b : Bool) → keeps_back q own ≡ b → b ≡ false = elim [ true ↦ (λ e. absurd (free u (record { blocker = q; own = own; blocker_at = hu; own_at = at; back = e }))) | false ↦ (λ e. refl) ] in
     cases (keeps_back q own) refl
+
+some_of : (o : Option LockRow) → IsSome o → (r : LockRow) × (o ≡ Some r)
+some_of (Some r) h = (r, refl)
+some_of None h = absurd cc
+
+-- the first row has the least ticket
+pub least_first : (rs : List LockRow) (n : ℕ) (r : LockRow) → IsOrdered rs n → slice_get rs 0 ≡ Some r → IsLeastTicket rs r.ticket
+least_first [] n r o h = absurd cc
+least_first (q ∷ qs) n r o h =
+    let same : (q.ticket == q.ticket) ≡ true = grind (arith, nat_tests) in
+    let is : q ≡ r = cc in
+    let first : IsLeastTicket (q ∷ qs) q.ticket = record {
+      here = rw same refl;
+      least = λ u k.
+          let at = some_of (row_at u (q ∷ qs)) k in
+          let cases : (b : Bool) → (q.ticket == u) ≡ b → cond b (Some q) (row_at u qs) ≡ Some at.0 → q.ticket ≤ u = elim [
+            | true ↦ (λ e m. let i : q.ticket ≡ u = grind (arith, nat_tests) in omega arith)
+            | false ↦ (λ e m. let lt : q.ticket < u = above q.ticket u qs at.0 o.1 m in omega arith)
+          ] in
+          cases (q.ticket == u) refl at.1;
+    } in
+    subst (λ (z : LockRow). IsLeastTicket (q ∷ qs) z.ticket) is first
