@@ -1,5 +1,5 @@
 -- the machine and the places of a log say the same
-use Rattle.std.proofs.Common.{ℕ, zero, suc, ◌≡◌, ◌≢◌, ◌<◌, ◌⊎◌, inl, inr, Bool, true, false, not, ◌&&◌, ◌||◌, List, [], ◌∷◌, ◌++◌, take, Option, Some, None, refl, ap, sym, ◌∙◌, subst, arith, append_assoc}
+use Rattle.std.proofs.Common.{ℕ, zero, suc, ◌≡◌, ◌≢◌, ◌<◌, Bool, true, false, not, ◌&&◌, ◌||◌, List, [], ◌∷◌, ◌++◌, take, Option, Some, refl, sym, ◌∙◌, subst, arith, append_assoc}
 use Rattle.std.specs.Prelude.{nat_lt, slice_get, IsSomeAnd}
 use Rattle.std.specs.List.{Contains}
 use Rattle.std.proofs.lemmas.Bool.Decides.{nat_tests}
@@ -7,9 +7,9 @@ use Rattle.std.proofs.lemmas.List.{append-nil}
 use Rattle.st_wants.specs.declared.want.Want.{Want}
 use Rattle.st_wants.specs.declared.row.LockRow.{LockRow}
 use Rattle.st_wants.specs.Wants.{compatible}
-use Rattle.st_wants.specs.Lock.{Lock, row_at, has_ticket, keeps_back, Blocks, IsFree}
+use Rattle.st_wants.specs.Lock.{Lock, row_at, keeps_back}
 use Rattle.st_wants.specs.Rules.{Move, Arrive, Grant, Release, lock_after, lock_run, May, Obeys}
-use Rattle.st_wants.specs.Places.{NotGranted, NotReleased, IsLiveGrant, IsWaiter, IsDueGrant, IsDueRelease, MayFollow, IsByRule, LiveGrantsApart}
+use Rattle.st_wants.specs.Places.{NotGranted, NotReleased, IsLiveGrant, IsDueGrant, IsDueRelease, MayFollow}
 use Rattle.st_grants.proofs.Lookups.{ticket_of, not_back}
 use Rattle.st_grants.proofs.Sound.{beside, some_and}
 use Rattle.st_grants.proofs.Told.{Told, HasRow, RowTold, told_step}
@@ -79,24 +79,24 @@ none_back past l s t u own q h d want_is own_is at back =
     let told : RowTold past u q = h.rows u q at in
     let u_is : q.ticket ≡ u = ticket_of u l.rows q at in
     let apart : compatible q.want d.want ≡ true → ⊥ = λ e.
-        let f : compatible q.want own.want ≡ true = subst (λ z. compatible q.want z ≡ true) (sym want_is) e in
-        let x : (not (compatible q.want own.want) && (q.live || nat_lt q.ticket own.ticket)) ≡ false = rw f refl in
-        let y : true ≡ false = sym back ∙ x in
-        cc in
+    let f : compatible q.want own.want ≡ true = subst (λ z. compatible q.want z ≡ true) (sym want_is) e in
+    let x : (not (compatible q.want own.want) && (q.live || nat_lt q.ticket own.ticket)) ≡ false = rw f refl in
+    let y : true ≡ false = sym back ∙ x in
+    cc in
     let live : q.live ≡ true → ⊥ = λ e. apart (d.beside u q.want (record { seat = q.seat; arrived = told.arrived; granted = told.granted e; kept = told.kept })) in
     let waits : q.live ≡ false → ⊥ = λ e.
-        let cases : (b : Bool) → nat_lt q.ticket own.ticket ≡ b → ⊥ = elim [
-          | true ↦ (λ k.
-              let lt : q.ticket < own.ticket = grind (arith, nat_tests) in
-              let lower : u < t = omega arith in
-              apart (d.in_turn u q.want (record { seat = q.seat; arrived = told.arrived; waits = told.waits e }) lower))
-          | false ↦ (λ k.
-              let z : (not (compatible q.want own.want) && (q.live || nat_lt q.ticket own.ticket)) ≡ (not (compatible q.want own.want) && false) = rw (e, k) refl in
-              let n : (not (compatible q.want own.want) && false) ≡ false = and_false (not (compatible q.want own.want)) in
-              let y : true ≡ false = sym back ∙ (z ∙ n) in
-              cc)
-        ] in
-        cases (nat_lt q.ticket own.ticket) refl in
+    let cases : (b : Bool) → nat_lt q.ticket own.ticket ≡ b → ⊥ = elim [
+      | true ↦ (λ k.
+          let lt : q.ticket < own.ticket = grind (arith, nat_tests) in
+          let lower : u < t = omega arith in
+          apart (d.in_turn u q.want (record { seat = q.seat; arrived = told.arrived; waits = told.waits e }) lower))
+      | false ↦ (λ k.
+          let z : (not (compatible q.want own.want) && (q.live || nat_lt q.ticket own.ticket)) ≡ (not (compatible q.want own.want) && false) = rw (e, k) refl in
+          let n : (not (compatible q.want own.want) && false) ≡ false = and_false (not (compatible q.want own.want)) in
+          let y : true ≡ false = sym back ∙ (z ∙ n) in
+          cc)
+    ] in
+    cases (nat_lt q.ticket own.ticket) refl in
     let cases : (b : Bool) → q.live ≡ b → ⊥ = elim [ true ↦ live | false ↦ waits ] in
     cases q.live refl
 
@@ -105,11 +105,12 @@ may_grant past l s t h d =
     let has : HasRow l s t d.want = h.back s t d.want d.arrived (not_released past l t h d.once) in
     let told : RowTold past t has.row = h.rows t has.row has.at in
     let own_is : has.row.ticket ≡ t = ticket_of t l.rows has.row has.at in
-    let cases : (b : Bool) → has.row.live ≡ b → has.row.live ≡ false = elim [ true ↦ (λ e. absurd (d.once has.row.seat (told.granted e))) | false ↦ (λ e. e) ] in
-    ( some_with (λ (r : LockRow). (r.live ≡ false) × (r.seat ≡ s)) (row_at t l.rows) has.row has.at (cases has.row.live refl, has.seat_is)
-    , λ u k.
-        let same : k.own ≡ has.row = let a = k.own_at in let b = has.at in cc in
-        none_back past l s t u has.row k.blocker h d has.want_is own_is k.blocker_at (subst (λ z. keeps_back k.blocker z ≡ true) same k.back))
+    let cases : (b : Bool) → has.row.live ≡ b → has.row.live ≡ false = elim [ true ↦ (λ e. absurd (d.once has.row.seat (told.granted e))) | false ↦ (λ e. e) ] in (
+      some_with (λ (r : LockRow). (r.live ≡ false) × (r.seat ≡ s)) (row_at t l.rows) has.row has.at (cases has.row.live refl, has.seat_is),
+      λ u k.
+          let same : k.own ≡ has.row = let a = k.own_at in let b = has.at in cc in
+          none_back past l s t u has.row k.blocker h d has.want_is own_is k.blocker_at (subst (λ z. keeps_back k.blocker z ≡ true) same k.back),
+    )
 
 may_release : (past : List Move) (l : Lock) (s t : ℕ) → Told past l → IsDueRelease past s t → May l (Release s t)
 may_release past l s t h d =

@@ -1,12 +1,11 @@
 -- Look-ups of rows, and their order.
-use Rattle.std.proofs.Common.{ℕ, ◌≡◌, ◌+◌, ◌<◌, ◌≤◌, ◌==◌, Bool, true, false, not, cond, List, [], ◌∷◌, ◌++◌, map, filter, Option, Some, None, refl, ap, sym, ◌∙◌, subst, arith}
-use Rattle.std.specs.Prelude.{find, option_map, nat_lt}
+use Rattle.std.proofs.Common.{ℕ, ◌≡◌, ◌+◌, ◌<◌, ◌≤◌, ◌==◌, Bool, true, false, cond, List, [], ◌∷◌, ◌++◌, map, filter, Option, Some, None, refl, ap, sym, subst, arith}
+use Rattle.std.specs.Prelude.{find}
 use Rattle.std.specs.List.{AllByRecursion}
 use Rattle.std.proofs.lemmas.Bool.Decides.{nat_tests}
-use Rattle.std.proofs.lemmas.List.Folds.{find-append}
 use Rattle.st_wants.specs.declared.row.LockRow.{LockRow}
 use Rattle.std.specs.Prelude.{IsSome, slice_get}
-use Rattle.st_wants.specs.Lock.{Lock, row_at, has_ticket, keeps_back, marked, Blocks, IsFree, IsLeastBlocker}
+use Rattle.st_wants.specs.Lock.{Lock, row_at, has_ticket, keeps_back, marked, IsFree, IsLeastBlocker}
 use Rattle.st_grants.specs.Order.{IsOrdered, IsLeastTicket}
 
 -- what a search finds passes the test

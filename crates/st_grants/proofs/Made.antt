@@ -1,6 +1,6 @@
 -- calls that may be made obey the rule
-use Rattle.std.proofs.Common.{ℕ, ◌≡◌, true, false, List, [], ◌∷◌, ◌++◌, take, Option, Some, None, refl, ap, subst}
-use Rattle.std.specs.Prelude.{IsSomeAnd, slice_get}
+use Rattle.std.proofs.Common.{◌≡◌, true, false, List, [], ◌∷◌, take, Option, Some, None, refl}
+use Rattle.std.specs.Prelude.{IsSomeAnd}
 use Rattle.st_wants.specs.declared.row.LockRow.{LockRow}
 use Rattle.st_wants.specs.Lock.{Lock, row_at, start}
 use Rattle.st_wants.specs.Rules.{Move, lock_after, May, Obeys}

@@ -1,5 +1,5 @@
 -- a log by the rule has each ticket's events once, in order
-use Rattle.std.proofs.Common.{ℕ, zero, suc, ◌≡◌, ◌+◌, ◌<◌, ◌⊎◌, inl, inr, List, [], ◌∷◌, take, length, Some, refl, ap, arith, length-take}
+use Rattle.std.proofs.Common.{ℕ, zero, suc, ◌≡◌, ◌<◌, List, [], ◌∷◌, take, length, Some, ap, arith}
 use Rattle.std.specs.Prelude.{slice_get, slice_index_or}
 use Rattle.std.specs.List.{Contains}
 use Rattle.st_wants.specs.declared.want.Want.{Want}

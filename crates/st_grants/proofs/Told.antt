@@ -1,14 +1,13 @@
 -- what a lock tells of the events that led to it
-use Rattle.std.proofs.Common.{ℕ, zero, suc, ◌≡◌, ◌≢◌, ◌+◌, ◌<◌, ◌==◌, ◌⊎◌, inl, inr, Bool, true, false, not, ◌&&◌, ◌||◌, cond, List, [], ◌∷◌, ◌++◌, map, filter, take, length, Option, Some, None, refl, ap, sym, ◌∙◌, subst, arith}
-use Rattle.std.specs.Prelude.{nat_lt, slice_index_or, IsSomeAnd}
+use Rattle.std.proofs.Common.{ℕ, zero, suc, ◌≡◌, ◌≢◌, ◌+◌, ◌<◌, ◌==◌, ◌⊎◌, inl, inr, Bool, true, false, not, ◌||◌, cond, List, [], ◌∷◌, ◌++◌, filter, Some, None, refl, ap, sym, ◌∙◌, subst, arith}
+use Rattle.std.specs.Prelude.{slice_index_or}
 use Rattle.std.specs.List.{Contains, count_by}
 use Rattle.std.proofs.lemmas.Bool.Decides.{nat_tests}
 use Rattle.std.proofs.lemmas.List.Elements.{Contains-append_left, Contains-append_right, Contains-append_cases}
 use Rattle.std.proofs.lemmas.List.Sums.{sum_by-append}
 use Rattle.st_wants.specs.declared.want.Want.{Want}
 use Rattle.st_wants.specs.declared.row.LockRow.{LockRow}
-use Rattle.st_wants.specs.Wants.{compatible}
-use Rattle.st_wants.specs.Lock.{Lock, row_at, has_ticket, marked, new_row, start, arrived, granted, released, IsFree}
+use Rattle.st_wants.specs.Lock.{Lock, row_at, has_ticket, marked, new_row, start, arrived, granted, released}
 use Rattle.st_wants.specs.Rules.{Move, Arrive, Grant, Release, lock_after, May}
 use Rattle.st_wants.specs.Places.{is_arrival, NotGranted, NotReleased}
 use Rattle.st_grants.specs.Order.{IsOrdered}
@@ -61,10 +60,10 @@ pub newest : (past : List Move) (m : Move) → Contains (past ++ m ∷ []) m
 newest past m = Contains-append_right past (m ∷ []) m (0, omega arith, refl)
 
 pub not_granted_more : (past : List Move) (m : Move) (t : ℕ) → NotGranted past t → ((s : ℕ) → m ≡ Grant s t → ⊥) → NotGranted (past ++ m ∷ []) t
-not_granted_more past m t h other s c = elim (in_push past m (Grant s t) c) [ | inl a ↦ h s a | inr e ↦ other s e ]
+not_granted_more past m t h other s c = elim (in_push past m (Grant s t) c) [ inl a ↦ h s a | inr e ↦ other s e ]
 
 pub not_released_more : (past : List Move) (m : Move) (t : ℕ) → NotReleased past t → ((s : ℕ) → m ≡ Release s t → ⊥) → NotReleased (past ++ m ∷ []) t
-not_released_more past m t h other s c = elim (in_push past m (Release s t) c) [ | inl a ↦ h s a | inr e ↦ other s e ]
+not_released_more past m t h other s c = elim (in_push past m (Release s t) c) [ inl a ↦ h s a | inr e ↦ other s e ]
 
 pub not_released_less : (past : List Move) (m : Move) (t : ℕ) → NotReleased (past ++ m ∷ []) t → NotReleased past t
 not_released_less past m t h s c = h s (old past m (Release s t) c)

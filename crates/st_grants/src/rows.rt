@@ -14,8 +14,8 @@ pub fn find_row(rows: &[LockRow], ticket: u64) -> Option<&LockRow>
 pub fn find_blocker<'a>(rows: &'a [LockRow], own: &LockRow) -> Option<&'a LockRow>
     ensures { option_copied result ≡ find (λ q. keeps_back q own.now) rows.now }
 {
-    rows.iter()
-        .find(|row| !compatible(&row.want, &own.want) && (row.live || row.ticket < own.ticket))
+    rows.iter().find(|row| !compatible(&row.want, &own.want)
+        && (row.live || row.ticket < own.ticket))
 }
 
 fn mark_row(row: &mut LockRow, ticket: u64)

@@ -1,12 +1,12 @@
 -- a seat that makes each arrival, grant and release in one turn obeys the rule
-use Rattle.std.proofs.Common.{ℕ, ◌≡◌, ◌+◌, ◌<◌, ◌==◌, Bool, true, false, not, ◌&&◌, ◌||◌, List, [], ◌∷◌, ◌++◌, Option, Some, refl, ap, sym, ◌∙◌, subst, arith}
+use Rattle.std.proofs.Common.{ℕ, ◌≡◌, ◌+◌, ◌==◌, Bool, true, false, not, ◌&&◌, List, [], ◌∷◌, ◌++◌, Some, refl, ap, sym, ◌∙◌, subst, arith}
 use Rattle.std.specs.Prelude.{nat_lt, IsSomeAnd}
 use Rattle.std.proofs.lemmas.Bool.Decides.{nat_tests}
 use Rattle.st_wants.specs.declared.want.Want.{Want}
 use Rattle.st_wants.specs.declared.row.LockRow.{LockRow}
-use Rattle.st_wants.specs.Lock.{Lock, row_at, new_row, marked, start, granted, IsFree, Blocks, keeps_back}
+use Rattle.st_wants.specs.Lock.{Lock, row_at, new_row, start, granted, IsFree, keeps_back}
 use Rattle.st_wants.specs.Wants.{compatible}
-use Rattle.st_wants.specs.Rules.{Move, Arrive, Grant, Release, lock_after, lock_run, May, Obeys}
+use Rattle.st_wants.specs.Rules.{Move, Arrive, Grant, Release, lock_after, lock_run, Obeys}
 
 pub lock_run_append : (l : Lock) (ms ns : List Move) → lock_run l (ms ++ ns) ≡ lock_run (lock_run l ms) ns
 lock_run_append l [] ns = refl
