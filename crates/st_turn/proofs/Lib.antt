@@ -1,0 +1,6 @@
+pub mod Totals
+pub mod PartSteps
+pub mod Logs
+pub mod Turns
+pub mod Splits
+pub mod Ends
