@@ -4,3 +4,4 @@ pub mod Logs
 pub mod Turns
 pub mod Splits
 pub mod Ends
+pub mod SeatViews

@@ -12,7 +12,9 @@ mod logged;
 mod parting;
 mod seat;
 mod standing;
+mod steps;
 mod turn;
+mod waiting;
 
 pub use logged::Logged;
 pub use seat::{NoMemory, SeatOf, TurnSeat};
