@@ -20,6 +20,7 @@ use Rattle.st_turn.specs.Lists.{IsAmong, one_if, times, total, Each, longer, tol
 use Rattle.st_turn.specs.Parts.{Has, IsIn, IsAlive, place_of, holding_of, claimed, held, Tickets, Counts, Comes, Family, IsDealt, Alone, Knows}
 use Rattle.st_turn.specs.Ruling.{log_of, FitsIn, Where, AtHome, WithSeat, IsKept, blank_view, spent_view}
 use Rattle.st_turn.specs.Views.{HasAll}
+use Rattle.st_turn.specs.Seated.{IsOpen}
 use Rattle.st_turn.specs.Kinds.{IsOwn, Drew, Found, Enters, or_opens, after_turn, Leaves, MayLeave, first_of, rest_of, newcomer, left_of, right_of, both_of, Tells, with_counted, with_drawn, Numbered, alone_of, Counted, TakesLast}
 use Rattle.st_turn.proofs.Turns.{same_kept, word_2, where_set, others_none, below_numbers, alive_in, tuned_kept}
 use Rattle.std.proofs.Common.{length-append}
@@ -380,3 +381,19 @@ module _ {B E O : Type 0} (by : E → ℕ) (events : B → List E) (opens : B �
         family = λ x pos lt. absurd (omega (arith, pos, lt));
         known = λ i st h. let o = only (blank_view {E = E} {O = O}).holding i st h in subst (IsDealt 1) o.1 (record { made = λ x m. absurd (omega (arith, m)); counted = omega arith });
       }
+
+  -- so the book is there
+  pub closed_book : (id : ℕ) (v : V) (ws : List ℕ) (xs : List (Option B)) (x : Option B) → v.place ≡ Out → v.holding.alone ≡ true → IsOpen v.opening → Final (Seen Kept id v) ws xs → get_elem? xs 0 ≡ some x
+      → (b : B) × (x ≡ Some b) × Found by events fits v (Some b) × ((y : ℕ) → (0 < times y (held v.holding)) ⊎ (told_by by y (events b) ≡ []))
+  closed_book id v ws xs x out is opened f at =
+      let r = closing id v ws xs out is f in
+      let same : r.0 ≡ x = some-injective r.0 x (sym r.1 ∙ at) in
+      let Mine : Option B → Type 0 = λ z. (y : ℕ) → (0 < times y (held v.holding)) ⊎ (told_by by y (log_of events z) ≡ []) in
+      let found : Found by events fits v x = subst (Found by events fits v) same r.2 in
+      let mine : Mine x = subst Mine same r.3 in
+      let fits_it : (o : Option O) (z : Option B) → IsOpen o → FitsIn fits o z → (b : B) × (z ≡ Some b) = elim [
+        | None ↦ (λ z h fit. absurd h)
+        | Some q ↦ elim [ None ↦ (λ h fit. absurd fit) | Some b ↦ (λ h fit. (b, refl)) ]
+      ] in
+      let b = fits_it v.opening x opened found.fitting in
+      (b.0, b.1, subst (Found by events fits v) b.1 found, subst Mine b.1 mine)

@@ -1,5 +1,5 @@
 -- What each kind of step makes of a seat's view, and what it tells.
-use Rattle.std.specs.Prelude.{ℕ, ◌≡◌, ◌+◌, ◌<◌, ◌≤◌, ◌⊎◌, ◌==◌, true, false, List, [], ◌∷◌, ◌++◌, drop, length, max, MatchBool, Option, Some, None}
+use Rattle.std.specs.Prelude.{ℕ, ◌≡◌, ◌+◌, ◌<◌, ◌≤◌, ◌⊎◌, ◌==◌, Bool, true, false, List, [], ◌∷◌, ◌++◌, drop, length, max, MatchBool, Option, Some, None}
 use mathlib.Core.List.{IsPrefix}
 use Rattle.atomic_table.specs.Table.{Me, Step}
 use Rattle.st_turn.specs.declared.standing.Place.TheVariants.{Out, Waiting, InTurn, Last}
@@ -109,3 +109,8 @@ pub record Counted {S E O : Type 0} (s : Step S) (m : Me S (Standing E O)) (n : 
 abbrev pub TakesLast : {B E O : Type 0} → (E → ℕ) → (B → List E) → (B → O → Type 0) → Step (Option B) → Me (Option B) (Standing E O) → ℕ → Me (Option B) (Standing E O) → Type 0
 TakesLast {B} {E} {O} by events fits s m n w = (x : Option B) × (w ≡ (record m.0 { place = Last; seen = log_of events x }, (0, x) ∷ m.1)) × Found by events fits m.0 x
     × ((y : ℕ) → IsAmong y (held m.0.holding) ⊎ (told_by by y (log_of events x) ≡ []))
+
+-- the seat stands as before, but for what it drew and counted, and for whether it knows that it is alone
+pub record SameBut {S E O : Type 0} (m w : Me S (Standing E O)) (drawn : List ℕ) (counted : ℕ) : Type 0 where
+  pub alone : Bool
+  pub view : w ≡ (record m.0 { holding = record m.0.holding { drawn = drawn; counted = counted; alone = alone } }, m.1)

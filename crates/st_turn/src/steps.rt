@@ -14,8 +14,8 @@ use crate::kinds::{
 };
 use crate::logged::Logged;
 use crate::standing::Standing;
-use atomic_table::{Seat, Shared};
-use std::sync::Wait;
+use atomic_table::{Seat, Shared, Table};
+use std::alloc::Global;
 
 /// A seat of the table.
 pub type TableSeat<B> = Seat<Option<B>, Standing<<B as Logged>::Event, <B as Logged>::Opening>>;
@@ -26,6 +26,15 @@ pub type TurnTable<B> = Shared<
     Standing<<B as Logged>::Event, <B as Logged>::Opening>,
     (),
     TurnRule<B>,
+>;
+
+/// The table with its memory.
+pub type OwnTable<B> = Table<
+    Option<B>,
+    Standing<<B as Logged>::Event, <B as Logged>::Opening>,
+    (),
+    TurnRule<B>,
+    Global,
 >;
 
 /// Draws this ticket, where it is still the next. Gives the next ticket as it was.
@@ -169,4 +178,23 @@ pub fn unite<B: Logged>(table: &TurnTable<B>, seat: &mut TableSeat<B>, other: Ta
 {
     table.join_seat::<Unite>(seat, other);
     let _dealt = table.load::<Tell>(seat, DEALT);
+}
+
+/// Ends the table of the only seat, and gives the book.
+pub fn open_up<B: Logged>(table: OwnTable<B>, seat: TableSeat<B>) -> B
+    requires slots { table.shared.table_id.slots ≡ 1 }
+    requires here { seat.table_id ≡ table.shared.table_id }
+    requires out { seat.me.0.place ≡ Out }
+    requires alone { seat.me.0.holding.alone ≡ true }
+    requires opened { IsOpen seat.me.0.opening }
+    ensures book { Found B.by B.events B.fits seat.me.0 (Some result) }
+    ensures mine { (y : ℕ) → IsAmong y (held seat.me.0.holding) ⊎ (told_by B.by y (B.events result) ≡ []) }
+{
+    let mut closed = table.close_with(seat);
+    let home = closed.take(0);
+    closed.free();
+    match home {
+        Some(book) => book,
+        None => unreachable!(),
+    }
 }
