@@ -3,5 +3,7 @@ pub mod PartSteps
 pub mod Logs
 pub mod Turns
 pub mod Splits
+pub mod Joins
+pub mod Counting
 pub mod Ends
 pub mod SeatViews

@@ -1,18 +1,15 @@
 -- What is known of a log, while it grows by events of one number.
-use Rattle.std.proofs.Common.{ℕ, zero, suc, ◌≡◌, ◌≢◌, ◌+◌, ◌<◌, ◌≤◌, ◌==◌, ◌⊎◌, inl, inr, Bool, true, false, List, [], ◌∷◌, ◌++◌, map, length, set, drop, refl, ap, sym, ◌∙◌, subst, arith, append_assoc}
+use Rattle.std.proofs.Common.{ℕ, ◌≡◌, ◌≢◌, ◌+◌, ◌<◌, ◌≤◌, ◌==◌, true, false, List, [], ◌∷◌, ◌++◌, map, length, drop, refl, ap, sym, ◌∙◌, subst, arith, append_assoc}
 use Rattle.std.proofs.lemmas.Bool.Decides.{nat_tests}
 use Rattle.std.proofs.lemmas.List.{append-nil}
 use Rattle.std.proofs.lemmas.List.Elements.{filter-append}
-use Rattle.std.specs.Prelude.{Option, nat_lt, Some, None, MatchBool}
-use Rattle.std.specs.List.{filter}
+use Rattle.std.specs.Prelude.{Option}
 use mathlib.Core.List.{IsPrefix}
 use Rattle.st_turn.specs.declared.standing.Claim.{Claim}
-use Rattle.st_turn.specs.declared.standing.Holding.{Holding}
 use Rattle.st_turn.specs.declared.standing.Standing.{Standing}
-use Rattle.st_turn.specs.Lists.{IsAmong, one_if, times, total, Each, longer, told_by, AreBy, AreAmong, number_of, Account, Unheard, grown}
-use Rattle.st_turn.specs.Parts.{Has, IsIn, IsAlive, place_of, holding_of, claimed, held, Tickets, Counts, Comes, Family, IsDealt, Alone, Knows}
-use Rattle.st_turn.specs.Ruling.{log_of, FitsIn, Where, AtHome, WithSeat, IsKept, blank_view, spent_view}
-use Rattle.st_turn.specs.Kinds.{IsOwn, Drew, Found, Enters, or_opens, after_turn, Leaves, MayLeave, first_of, rest_of, newcomer, left_of, right_of, both_of, Tells, with_counted, with_drawn, Numbered, alone_of, Counted, TakesLast}
+use Rattle.st_turn.specs.Lists.{one_if, times, told_by, AreBy, number_of, Account, Unheard, grown}
+use Rattle.st_turn.specs.Parts.{held, Knows}
+use Rattle.st_turn.specs.Kinds.{IsOwn}
 use Rattle.st_turn.proofs.Totals.{times_append, once_itself}
 
 pub prefix_grows : {E : Type 0} (a l more : List E) → IsPrefix a l → IsPrefix a (l ++ more)

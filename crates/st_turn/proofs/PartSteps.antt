@@ -1,25 +1,16 @@
 -- The parts of the rule, where one view is set or one more comes.
-use Rattle.std.proofs.Common.{ℕ, zero, suc, ◌≡◌, ◌≢◌, ◌+◌, ◌<◌, ◌≤◌, ◌==◌, ◌⊎◌, inl, inr, Bool, true, false, List, [], ◌∷◌, ◌++◌, map, length, set, drop, refl, ap, sym, ◌∙◌, subst, arith, append_assoc}
-use Rattle.std.proofs.lemmas.Bool.Decides.{nat_tests}
-use Rattle.std.proofs.lemmas.List.{append-nil}
-use Rattle.std.proofs.lemmas.List.Elements.{filter-append}
-use Rattle.std.specs.Prelude.{Option, nat_lt, Some, None}
-use Rattle.std.specs.List.{filter}
+use Rattle.std.proofs.Common.{ℕ, ◌≡◌, ◌≢◌, ◌+◌, ◌<◌, ◌==◌, ◌⊎◌, inl, inr, true, false, List, [], ◌∷◌, ◌++◌, length, set, refl, ap, sym, ◌∙◌, subst, arith}
 use native.Mathlib.Decide.{ℕ_discrete}
-use mathlib.Core.Option.{some, none, some-ne-none, some-injective}
-use mathlib.Core.List.{IsPrefix}
+use mathlib.Core.Option.{some, some-injective}
 use lib.ListN.{get_elem?}
-use Rattle.atomic_table.proofs.Lists.{at_set, set_else, set_here, set_again, at_snoc, at_longer, at_map}
+use Rattle.atomic_table.proofs.Lists.{at_set, set_else, set_here, at_snoc, at_longer}
 use Rattle.st_turn.specs.declared.standing.Place.{Place}
-use Rattle.st_turn.specs.declared.standing.Place.TheVariants.{Out, Waiting, InTurn, Last, Spent}
-use Rattle.st_turn.specs.declared.standing.Claim.{Claim}
+use Rattle.st_turn.specs.declared.standing.Place.TheVariants.{Out, Waiting, InTurn}
 use Rattle.st_turn.specs.declared.standing.Holding.{Holding}
 use Rattle.st_turn.specs.declared.standing.Standing.{Standing}
-use Rattle.st_turn.specs.Lists.{IsAmong, one_if, times, total, Each, longer, told_by, AreBy, AreAmong, number_of, Account, Unheard, grown}
-use Rattle.st_turn.specs.Parts.{Has, IsIn, IsAlive, place_of, holding_of, claimed, held, Tickets, Counts, Comes, Family, IsDealt, Alone, Knows}
-use Rattle.st_turn.specs.Ruling.{log_of, FitsIn, Where, AtHome, WithSeat, IsKept, blank_view, spent_view}
-use Rattle.st_turn.specs.Kinds.{IsOwn, Drew, Found, Enters, or_opens, after_turn, Leaves, MayLeave, first_of, rest_of, newcomer, left_of, right_of, both_of, Tells, with_counted, with_drawn, Numbered, alone_of, Counted, TakesLast}
-use Rattle.st_turn.proofs.Totals.{inside, total_set, total_snoc, total_one, total_two, total_alone, map_set_same, map_set, map_snoc, map_joins, unmap, times_append, below_more, one_if_most, once_itself, below_of}
+use Rattle.st_turn.specs.Lists.{one_if, times, Each}
+use Rattle.st_turn.specs.Parts.{Has, IsIn, IsAlive, claimed, held, Tickets, Counts, Family, Alone}
+use Rattle.st_turn.proofs.Totals.{inside, total_set, total_snoc, below_more}
 
 -- tickets
 pub tickets_draw : (t s : ℕ) (ps : List Place) (id : ℕ) → Tickets t s ps → Tickets (t + 1) s (set ps id (Waiting t))
@@ -87,17 +78,20 @@ pub tickets_leave : (t s : ℕ) (ps : List Place) (id n : ℕ) → get_elem? ps 
 tickets_leave t s ps id n at only k =
     let old : (j : ℕ) (u : Place) (m : ℕ) → get_elem? (set ps id Out) j ≡ some u → Has m u → (j ≢ id) × (get_elem? ps j ≡ some u) = λ j u m h has. elim (at_set ps id j Out u h) [ inl e ↦ absurd (subst (Has m) (sym e.1) has) | inr e ↦ e ] in
     let is : n ≡ s = k.turn id (InTurn n) n at tt refl in
-    let mine = k.between id (InTurn n) n at refl in
-    (omega (arith, mine.1, is), sym is, record {
-      order = omega (arith, mine.1, is);
-      between = λ j u m h has.
-        let o = old j u m h has in
-        let b = k.between j u m o.1 has in
-        let ne : m ≢ n = λ q. o.0 (k.apart j id u (InTurn n) m o.1 at has (sym q)) in
-        (omega (arith, b.0, ne, is), b.1);
-      apart = λ i j u x m hi hj has has'. k.apart i j u x m (old i u m hi has).1 (old j x m hj has').1 has has';
-      turn = λ j u m h is_in has. let o = old j u m h has in absurd (o.0 (only j u o.1 is_in));
-    })
+    let mine = k.between id (InTurn n) n at refl in (
+      omega (arith, mine.1, is),
+      sym is,
+      record {
+        order = omega (arith, mine.1, is);
+        between = λ j u m h has.
+            let o = old j u m h has in
+            let b = k.between j u m o.1 has in
+            let ne : m ≢ n = λ q. o.0 (k.apart j id u (InTurn n) m o.1 at has (sym q)) in
+            (omega (arith, b.0, ne, is), b.1);
+        apart = λ i j u x m hi hj has has'. k.apart i j u x m (old i u m hi has).1 (old j x m hj has').1 has has';
+        turn = λ j u m h is_in has. let o = old j u m h has in absurd (o.0 (only j u o.1 is_in));
+      },
+    )
 
 pub tickets_more : (t s : ℕ) (ps : List Place) (q : Place) → ((m : ℕ) → Has m q → ⊥) → Tickets t s ps → Tickets t s (ps ++ q ∷ [])
 tickets_more t s ps q idle k =

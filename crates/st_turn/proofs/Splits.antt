@@ -1,32 +1,25 @@
 -- The steps by which seats are made, joined and counted keep the rule.
-use Rattle.std.proofs.Common.{ℕ, zero, suc, ◌≡◌, ◌≢◌, ◌+◌, ◌<◌, ◌≤◌, ◌==◌, ◌%◌, ◌^◌, ◌⊎◌, inl, inr, Bool, true, false, List, [], ◌∷◌, ◌++◌, map, drop, length, slice_index, slice_set, MatchBool, refl, ap, sym, ◌∙◌, subst, arith, append_assoc, length-set}
+use Rattle.std.proofs.Common.{ℕ, zero, suc, ◌≡◌, ◌+◌, ◌<◌, ◌≤◌, ◌==◌, ◌⊎◌, inl, inr, Bool, true, false, List, [], ◌∷◌, ◌++◌, map, length, slice_index, slice_set, MatchBool, refl, ap, sym, ◌∙◌, subst, arith}
 use Rattle.std.proofs.lemmas.Bool.Decides.{nat_tests}
-use Rattle.std.proofs.lemmas.List.{append-nil}
-use Rattle.std.proofs.Math.Nat.{mod-eq_of_lt}
-use Rattle.std.specs.Prelude.{Option, Some, None, unwrap_or, nat_lt}
+use Rattle.std.specs.Prelude.{Option, Some, None}
 use native.Mathlib.Decide.{ℕ_discrete}
-use mathlib.Core.Option.{some, none, some-ne-none, some-injective}
-use mathlib.Core.List.{IsPrefix}
+use mathlib.Core.Option.{some, none}
 use lib.ListN.{get_elem?}
 use prog.Atomic.{either}
-use Rattle.atomic_table.specs.Table.{State, Me, Step, Act, keeps, takes, gives, Valid, Allows, Splits, Joins, step, stepped, carried_after, rest}
-use Rattle.atomic_table.proofs.Lists.{at_set, set_else, set_here, set_again, at_snoc, at_longer, at_map}
-use Rattle.st_turn.specs.declared.standing.Place.{Place}
-use Rattle.st_turn.specs.declared.standing.Place.TheVariants.{Out, Waiting, InTurn, Last, Spent}
+use Rattle.atomic_table.specs.Table.{State, Me, Act, keeps, Valid, Allows, Splits, step, stepped, carried_after}
+use Rattle.atomic_table.proofs.Lists.{at_snoc, at_longer, at_map}
+use Rattle.st_turn.specs.declared.standing.Place.TheVariants.{Out, Last}
 use Rattle.st_turn.specs.declared.standing.Claim.{Claim}
-use Rattle.st_turn.specs.declared.standing.Holding.{Holding}
 use Rattle.st_turn.specs.declared.standing.Standing.{Standing}
-use Rattle.st_turn.specs.Lists.{IsAmong, one_if, times, total, Each, longer, told_by, AreBy, AreAmong, number_of, Account, Unheard, grown}
-use Rattle.st_turn.specs.Parts.{Has, IsIn, IsAlive, place_of, holding_of, claimed, held, Tickets, Counts, Comes, Family, IsDealt, Alone, Knows}
-use Rattle.st_turn.specs.Ruling.{log_of, FitsIn, Where, AtHome, WithSeat, IsKept, blank_view, spent_view}
-use Rattle.st_turn.specs.Kinds.{IsOwn, Drew, Found, Enters, or_opens, after_turn, Leaves, MayLeave, first_of, rest_of, newcomer, left_of, right_of, both_of, Tells, with_counted, with_drawn, Numbered, alone_of, Counted, TakesLast}
-use Rattle.st_turn.proofs.Turns.{same_kept, word_2, where_set, others_none, below_numbers, alive_in, tuned_kept}
+use Rattle.st_turn.specs.Lists.{one_if, times, Each, number_of, Unheard}
+use Rattle.st_turn.specs.Parts.{IsIn, IsAlive, place_of, holding_of, held, Tickets, Counts, Family, IsDealt, Knows}
+use Rattle.st_turn.specs.Ruling.{AtHome, WithSeat, IsKept}
+use Rattle.st_turn.specs.Kinds.{IsOwn, first_of, rest_of, newcomer, left_of, right_of, with_counted, with_drawn, Numbered}
+use Rattle.st_turn.proofs.Turns.{word_2, where_set, below_numbers, read_kept}
 use Rattle.std.proofs.Common.{length-append}
-use Rattle.st_turn.proofs.Totals.{once_itself, inside, total_set, total_snoc, total_one, total_two, total_alone, prefix_cases, map_set_same, map_set, map_snoc, map_joins, unmap, times_append, one_if_most, below_of}
-use Rattle.st_turn.proofs.PartSteps.{tickets_draw, tickets_enter, tickets_idle, tickets_leave, tickets_more, each_set, each_more, counts_set, counts_draw, counts_split, counts_join, family_set, family_more, family_draw, family_join, known, alone_set, alone_none, nobody}
-use Rattle.st_turn.proofs.Logs.{prefix_grows, prefix_self, drop_front, told_other, own_grows, unheard_grows, account_joins, unheard_joins, knows_grows, grown_numbers, grown_long, own_counts, own_long}
-use Rattle.std.proofs.lemmas.List.Elements.{filter-append}
-
+use Rattle.st_turn.proofs.Totals.{once_itself, map_set_same, map_set, map_snoc, times_append}
+use Rattle.st_turn.proofs.PartSteps.{tickets_more, each_set, each_more, counts_draw, counts_split, family_set, family_more, family_draw, known, alone_set, alone_none, nobody}
+use Rattle.st_turn.proofs.Logs.{own_counts}
 
 pub first_own : {E : Type 0} (cs : List (Claim E)) → 0 < length cs → (p : ℕ) × IsOwn p cs
 first_own [] h = absurd (omega arith)
@@ -70,18 +63,18 @@ module _ {B E O : Type 0} (by : E → ℕ) (events : B → List E) (opens : B �
       let own_in : 0 < times own.0 names = own_counts by own.0 v.holding.claims own.1 in
       let below : own.0 < k.dealt = below_numbers by events opens fits s id v own.0 at (pos_append own.0 names v.holding.drawn (inl own_in)) k in
       let c0 : Counts (n + 1) (slice_set (map holding_of s.views) id w.holding) = subst (λ m. Counts (m + 1) (slice_set (map holding_of s.views) id (with_drawn m v).holding)) n_is (counts_draw k.dealt (map holding_of s.views) id v.holding (with_drawn k.dealt v).holding at_holding
-        (λ x. let a = times_append x names (k.dealt ∷ v.holding.drawn) in let b = times_append x names v.holding.drawn in omega (arith, a, b))
-        (let a : length (names ++ k.dealt ∷ v.holding.drawn) ≡ length names + length (k.dealt ∷ v.holding.drawn) = length-append names (k.dealt ∷ v.holding.drawn) in let b : length (names ++ v.holding.drawn) ≡ length names + length v.holding.drawn = length-append names v.holding.drawn in omega (arith, a, b)) k.counts) in
+      (λ x. let a = times_append x names (k.dealt ∷ v.holding.drawn) in let b = times_append x names v.holding.drawn in omega (arith, a, b))
+      (let a : length (names ++ k.dealt ∷ v.holding.drawn) ≡ length names + length (k.dealt ∷ v.holding.drawn) = length-append names (k.dealt ∷ v.holding.drawn) in let b : length (names ++ v.holding.drawn) ≡ length names + length v.holding.drawn = length-append names v.holding.drawn in omega (arith, a, b)) k.counts) in
       let f0 : Family (n + 1) (slice_set (map holding_of s.views) id w.holding) = subst (λ m. Family (m + 1) (slice_set (map holding_of s.views) id (with_drawn m v).holding)) n_is (family_draw k.dealt own.0 (map holding_of s.views) id v.holding (with_drawn k.dealt v).holding at_holding below own_in
-        (pos_append k.dealt names (v.holding.made ++ k.dealt ∷ v.holding.drawn) (inr (pos_append k.dealt v.holding.made (k.dealt ∷ v.holding.drawn) (inr (pos_self k.dealt v.holding.drawn)))))
-        (λ x h. h)
-        (λ x h. elim (pos_cases x names (v.holding.made ++ v.holding.drawn) h) [
-          | inl a ↦ pos_append x names (v.holding.made ++ k.dealt ∷ v.holding.drawn) (inl a)
-          | inr a ↦ elim (pos_cases x v.holding.made v.holding.drawn a) [
-            | inl b ↦ pos_append x names (v.holding.made ++ k.dealt ∷ v.holding.drawn) (inr (pos_append x v.holding.made (k.dealt ∷ v.holding.drawn) (inl b)))
-            | inr b ↦ pos_append x names (v.holding.made ++ k.dealt ∷ v.holding.drawn) (inr (pos_append x v.holding.made (k.dealt ∷ v.holding.drawn) (inr (let q : times x (k.dealt ∷ v.holding.drawn) ≡ one_if (x == k.dealt) + times x v.holding.drawn = refl in omega (arith, b)))))
-          ]
-        ]) k.family) in
+      (pos_append k.dealt names (v.holding.made ++ k.dealt ∷ v.holding.drawn) (inr (pos_append k.dealt v.holding.made (k.dealt ∷ v.holding.drawn) (inr (pos_self k.dealt v.holding.drawn)))))
+      (λ x h. h)
+      (λ x h. elim (pos_cases x names (v.holding.made ++ v.holding.drawn) h) [
+        | inl a ↦ pos_append x names (v.holding.made ++ k.dealt ∷ v.holding.drawn) (inl a)
+        | inr a ↦ elim (pos_cases x v.holding.made v.holding.drawn a) [
+          | inl b ↦ pos_append x names (v.holding.made ++ k.dealt ∷ v.holding.drawn) (inr (pos_append x v.holding.made (k.dealt ∷ v.holding.drawn) (inl b)))
+          | inr b ↦ pos_append x names (v.holding.made ++ k.dealt ∷ v.holding.drawn) (inr (pos_append x v.holding.made (k.dealt ∷ v.holding.drawn) (inr (let q : times x (k.dealt ∷ v.holding.drawn) ≡ one_if (x == k.dealt) + times x v.holding.drawn = refl in omega (arith, b)))))
+        ]
+      ]) k.family) in
       record {
         ticket = k.ticket;
         serving = k.serving;
@@ -119,9 +112,9 @@ module _ {B E O : Type 0} (by : E → ℕ) (events : B → List E) (opens : B �
             (with_drawn n me.0, keeps, tt, subst (λ m. Kept (stepped s 2 (m + 1) id me.1 (with_drawn n me.0) keeps)) same kept, (later, refl)))
         | false ↦ (λ e.
             let w : V = with_counted n me.0 in
-            let kept : Kept (stepped s 2 n id me.1 w keeps) = tuned_kept by events opens fits s 2 id me.0 w me.1 (word_2 by events opens fits s k) out out at k
-              (record { seen = kn.seen; also = kn.also; claims = kn.claims; drawn = kn.drawn; opened = kn.opened; begun = kn.begun; named = kn.named; nothing = kn.nothing; lastly = kn.lastly })
-              (alone_set s.views id me.0 w at alive (λ h. h) k.alone) refl refl refl (record { made = dealt_v.made; counted = counted_n }) in
+            let kept : Kept (stepped s 2 n id me.1 w keeps) = read_kept by events opens fits s 2 id me.0 w me.1 (word_2 by events opens fits s k) out out at k
+            (record { seen = kn.seen; also = kn.also; claims = kn.claims; drawn = kn.drawn; opened = kn.opened; begun = kn.begun; named = kn.named; nothing = kn.nothing; lastly = kn.lastly })
+            (alone_set s.views id me.0 w at alive (λ h. h) k.alone) refl refl refl (record { made = dealt_v.made; counted = counted_n }) in
             (w, keeps, tt, kept, (later, refl)))
       ] in
       cases (n == old) refl
@@ -146,10 +139,10 @@ module _ {B E O : Type 0} (by : E → ℕ) (events : B → List E) (opens : B �
       let unheard_d : Unheard by k.log (d ∷ []) = subst (Unheard by k.log) drawn kn.drawn in
       let book0 = where_set by events opens fits s s.words k.log k.opening id v w at (λ h. subst IsIn out h) (λ h. subst IsIn out h) k.book in
       let known_old : (x : ℕ) → 0 < times x (known v.holding) → 0 < times x (known w.holding) = λ x h.
-        elim (pos_cases x names (v.holding.made ++ v.holding.drawn) h) [
-          | inl q ↦ pos_append x names ((v.holding.made ++ d ∷ []) ++ []) (inl q)
-          | inr q ↦ pos_append x names ((v.holding.made ++ d ∷ []) ++ []) (inr (pos_append x (v.holding.made ++ d ∷ []) [] (inl (subst (λ l. 0 < times x (v.holding.made ++ l)) drawn q))))
-        ] in
+      elim (pos_cases x names (v.holding.made ++ v.holding.drawn) h) [
+        | inl q ↦ pos_append x names ((v.holding.made ++ d ∷ []) ++ []) (inl q)
+        | inr q ↦ pos_append x names ((v.holding.made ++ d ∷ []) ++ []) (inr (pos_append x (v.holding.made ++ d ∷ []) [] (inl (subst (λ l. 0 < times x (v.holding.made ++ l)) drawn q))))
+      ] in
       let d_in : 0 < times d (held v.holding) = subst (λ l. 0 < times d l) (sym old) (pos_append d names (d ∷ []) (inr (pos_self d []))) in
       let dealt_v = k.known id v.holding at_holding in
       let d_below : d < k.dealt = below_numbers by events opens fits s id v d at d_in k in
@@ -174,11 +167,11 @@ module _ {B E O : Type 0} (by : E → ℕ) (events : B → List E) (opens : B �
               elim (at_snoc (map place_of s.views) Out p j e) [ inl q ↦ others j p (ap (λ l. get_elem? l j) (map_set_same place_of s.views id v w at refl) ∙ q) in' | inr q ↦ absurd (subst IsIn (sym q) in') ])
         ];
         knows = each_more (Knows by k.log k.opening) (slice_set s.views id w) a (each_set (Knows by k.log k.opening) s.views id w k.knows (record { seen = kn.seen; also = kn.also; claims = kn.claims; drawn = tt; opened = kn.opened; begun = λ q e. absurd (not_none e); named = kn.named; nothing = λ q. absurd (q alive); lastly = λ q. let z : Out ≡ Last = sym out ∙ q in absurd cc }))
-          (record { seen = kn.seen; also = (k.log, refl); claims = unheard_d; drawn = tt; opened = λ q. kn.opened alive; begun = λ q e. absurd (not_none e); named = λ q. omega arith; nothing = λ q. absurd (q tt); lastly = λ q. absurd cc });
+            (record { seen = kn.seen; also = (k.log, refl); claims = unheard_d; drawn = tt; opened = λ q. kn.opened alive; begun = λ q e. absurd (not_none e); named = λ q. omega arith; nothing = λ q. absurd (q tt); lastly = λ q. absurd cc });
         unheard = k.unheard;
         counts = subst (Counts k.dealt) (sym sts) (counts_split k.dealt (map holding_of s.views) id v.holding w.holding a.holding at_holding
-          (λ x. let e : times x (held v.holding) ≡ times x (names ++ d ∷ []) = ap (times x) old in let f = times_append x names (d ∷ []) in let g = times_append x names [] in omega (arith, e, f, g))
-          (let e : length (held v.holding) ≡ length (names ++ d ∷ []) = ap (length {A = ℕ}) old in let f : length (names ++ d ∷ []) ≡ length names + length (d ∷ []) = length-append names (d ∷ []) in let g : length (names ++ []) ≡ length names + length {A = ℕ} [] = length-append names [] in omega (arith, e, f, g)) k.counts);
+            (λ x. let e : times x (held v.holding) ≡ times x (names ++ d ∷ []) = ap (times x) old in let f = times_append x names (d ∷ []) in let g = times_append x names [] in omega (arith, e, f, g))
+            (let e : length (held v.holding) ≡ length (names ++ d ∷ []) = ap (length {A = ℕ}) old in let f : length (names ++ d ∷ []) ≡ length names + length (d ∷ []) = length-append names (d ∷ []) in let g : length (names ++ []) ≡ length names + length {A = ℕ} [] = length-append names [] in omega (arith, e, f, g)) k.counts);
         alone = alone_none (slice_set s.views id w ++ a ∷ []) (λ i u h is. elim (at_snoc (slice_set s.views id w) a u i h) [
           | inl q ↦ nobody s.views id v w at alive refl k.alone i u q is
           | inr q ↦ (let z : false ≡ u.holding.alone = ap (λ (y : V). y.holding.alone) q in let y : true ≡ false = sym is ∙ sym z in cc)
@@ -190,5 +183,5 @@ module _ {B E O : Type 0} (by : E → ℕ) (events : B → List E) (opens : B �
   pub split_keeps : (id : ℕ) (v : V) (d : ℕ) (o : O) → v.place ≡ Out → v.holding.drawn ≡ d ∷ [] → v.opening ≡ Some o → Splits Kept id v (left_of v) (right_of v)
   split_keeps id v d o out drawn opening s k at =
       let e : record { words = s.words; homes = s.homes; views = slice_set s.views id (halved v d) ++ newcomer v (d ∷ []) ∷ [] } ≡ record { words = s.words; homes = s.homes; views = slice_set s.views id (left_of v) ++ right_of v ∷ [] }
-        = λ x. record { words = s.words; homes = s.homes; views = slice_set s.views id (record v { holding = record v.holding { drawn = rest_of (sym drawn x); made = v.holding.made ++ first_of (sym drawn x); alone = false } }) ++ newcomer v (sym drawn x) ∷ [] } in
+      = λ x. record { words = s.words; homes = s.homes; views = slice_set s.views id (record v { holding = record v.holding { drawn = rest_of (sym drawn x); made = v.holding.made ++ first_of (sym drawn x); alone = false } }) ++ newcomer v (sym drawn x) ∷ [] } in
       subst Kept e (split_kept s id v d o out drawn opening at k)

@@ -1,17 +1,14 @@
 -- Sums over the members of a list, and lists of which one member is set.
-use Rattle.std.proofs.Common.{ℕ, zero, suc, ◌≡◌, ◌≢◌, ◌+◌, ◌<◌, ◌≤◌, ◌==◌, ◌⊎◌, inl, inr, Bool, true, false, List, [], ◌∷◌, ◌++◌, map, length, set, refl, ap, sym, ◌∙◌, subst, arith}
+use Rattle.std.proofs.Common.{ℕ, zero, suc, ◌≡◌, ◌≢◌, ◌+◌, ◌<◌, ◌≤◌, ◌==◌, ◌⊎◌, inl, inr, Bool, true, false, List, [], ◌∷◌, ◌++◌, map, length, set, refl, ap, sym, ◌∙◌, arith}
 use Rattle.std.proofs.lemmas.Bool.Decides.{nat_tests}
 use Rattle.std.specs.Prelude.{nat_lt}
-use mathlib.Core.Option.{some, none, some-ne-none, some-injective}
+use mathlib.Core.Option.{some, some-ne-none, some-injective}
 use mathlib.Core.List.{IsPrefix}
 use lib.ListN.{get_elem?}
 use Rattle.std.proofs.Common.{length-append}
 use Rattle.std.proofs.lemmas.List.{append-nil}
 use Rattle.std.specs.Prelude.{if◌then◌else◌}
-use Rattle.st_turn.specs.Lists.{IsAmong, one_if, times, total, Each, longer, told_by, AreBy, AreAmong, number_of, Account, Unheard, grown}
-use Rattle.st_turn.specs.Parts.{Has, IsIn, IsAlive, place_of, holding_of, claimed, held, Tickets, Counts, Comes, Family, IsDealt, Alone, Knows}
-use Rattle.st_turn.specs.Ruling.{log_of, FitsIn, Where, AtHome, WithSeat, IsKept, blank_view, spent_view}
-use Rattle.st_turn.specs.Kinds.{IsOwn, Drew, Found, Enters, or_opens, after_turn, Leaves, MayLeave, first_of, rest_of, newcomer, left_of, right_of, both_of, Tells, with_counted, with_drawn, Numbered, alone_of, Counted, TakesLast}
+use Rattle.st_turn.specs.Lists.{one_if, times, total, longer}
 
 module _ {A : Type 0} where
   pub inside : (l : List A) (i : ℕ) (a : A) → get_elem? l i ≡ some a → i < length l

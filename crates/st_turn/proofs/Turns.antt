@@ -1,28 +1,25 @@
 -- The steps of the turn keep the rule.
-use Rattle.std.proofs.Common.{ℕ, zero, suc, ◌≡◌, ◌≢◌, ◌+◌, ◌<◌, ◌≤◌, ◌==◌, ◌%◌, ◌^◌, ◌⊎◌, inl, inr, Bool, true, false, List, [], ◌∷◌, ◌++◌, map, drop, length, slice_index, slice_set, MatchBool, refl, ap, sym, ◌∙◌, subst, arith, append_assoc, length-set}
+use Rattle.std.proofs.Common.{ℕ, ◌≡◌, ◌≢◌, ◌+◌, ◌<◌, ◌≤◌, ◌==◌, ◌%◌, ◌^◌, ◌⊎◌, inl, inr, Bool, true, false, List, [], ◌∷◌, ◌++◌, map, drop, length, slice_index, slice_set, MatchBool, refl, ap, sym, ◌∙◌, subst, arith, length-set}
 use Rattle.std.proofs.lemmas.Bool.Decides.{nat_tests}
-use Rattle.std.proofs.lemmas.List.{append-nil}
 use Rattle.std.proofs.Math.Nat.{mod-eq_of_lt}
 use Rattle.std.specs.Prelude.{Option, Some, None, unwrap_or, nat_lt}
-use native.Mathlib.Decide.{ℕ_discrete}
-use mathlib.Core.Option.{some, none, some-ne-none, some-injective}
+use mathlib.Core.Option.{some, none, some-injective}
 use mathlib.Core.List.{IsPrefix}
 use lib.ListN.{get_elem?}
 use prog.Atomic.{either}
-use Rattle.atomic_table.specs.Table.{State, Me, Step, Act, keeps, takes, gives, Valid, Allows, Splits, Joins, step, stepped, carried_after, rest}
-use Rattle.atomic_table.proofs.Lists.{at_set, set_else, set_here, set_again, at_snoc, at_longer, at_map}
+use Rattle.atomic_table.specs.Table.{State, Me, Act, keeps, takes, gives, Valid, Allows, step, stepped, carried_after, rest}
+use Rattle.atomic_table.proofs.Lists.{at_set, set_else, set_here, set_again, at_map}
 use Rattle.st_turn.specs.declared.standing.Place.{Place}
 use Rattle.st_turn.specs.declared.standing.Place.TheVariants.{Out, Waiting, InTurn, Last, Spent}
-use Rattle.st_turn.specs.declared.standing.Claim.{Claim}
 use Rattle.st_turn.specs.declared.standing.Holding.{Holding}
 use Rattle.st_turn.specs.declared.standing.Standing.{Standing}
-use Rattle.st_turn.specs.Lists.{IsAmong, one_if, times, total, Each, longer, told_by, AreBy, AreAmong, number_of, Account, Unheard, grown}
-use Rattle.st_turn.specs.Parts.{Has, IsIn, IsAlive, place_of, holding_of, claimed, held, Tickets, Counts, Comes, Family, IsDealt, Alone, Knows}
-use Rattle.st_turn.specs.Ruling.{log_of, FitsIn, Where, AtHome, WithSeat, IsKept, blank_view, spent_view}
-use Rattle.st_turn.specs.Kinds.{IsOwn, Drew, Found, Enters, or_opens, after_turn, Leaves, MayLeave, first_of, rest_of, newcomer, left_of, right_of, both_of, Tells, with_counted, with_drawn, Numbered, alone_of, Counted, TakesLast}
-use Rattle.st_turn.proofs.Totals.{inside, total_set, total_snoc, total_one, total_two, total_alone, prefix_cases, map_set_same, map_set, map_snoc, map_joins, unmap, times_append, one_if_most, below_of}
-use Rattle.st_turn.proofs.PartSteps.{tickets_draw, tickets_enter, tickets_idle, tickets_leave, tickets_more, each_set, each_more, counts_set, counts_draw, counts_split, counts_join, family_set, family_more, family_draw, family_join, known, alone_set, alone_none, nobody}
-use Rattle.st_turn.proofs.Logs.{prefix_grows, prefix_self, drop_front, told_other, own_grows, unheard_grows, account_joins, unheard_joins, knows_grows, grown_numbers, grown_long, own_counts, own_long}
+use Rattle.st_turn.specs.Lists.{one_if, times, total, Each, told_by, AreBy, number_of, Account, grown}
+use Rattle.st_turn.specs.Parts.{IsIn, IsAlive, place_of, holding_of, claimed, held, Tickets, Counts, Family, IsDealt, Alone, Knows}
+use Rattle.st_turn.specs.Ruling.{log_of, FitsIn, Where, AtHome, WithSeat, IsKept}
+use Rattle.st_turn.specs.Kinds.{IsOwn, Drew, Found, Enters, or_opens, after_turn, Leaves, MayLeave}
+use Rattle.st_turn.proofs.Totals.{inside, total_one, total_two, map_set_same, map_set, times_append, one_if_most, below_of}
+use Rattle.st_turn.proofs.PartSteps.{tickets_draw, tickets_enter, tickets_idle, tickets_leave, each_set, counts_set, family_set, known, alone_set}
+use Rattle.st_turn.proofs.Logs.{prefix_grows, prefix_self, drop_front, told_other, own_grows, unheard_grows, knows_grows, grown_numbers, grown_long, own_counts}
 use Rattle.std.proofs.lemmas.List.Elements.{filter-append}
 
 abbrev held_first : {B : Type 0} → B → List (ℕ × Option B) → B
@@ -60,11 +57,11 @@ module _ {B E O : Type 0} (by : E → ℕ) (events : B → List E) (opens : B �
   pub where_set : (s : State (Option B) V) (ws : List ℕ) (log : List E) (o : Option O) (id : ℕ) (v w : V) → get_elem? s.views id ≡ some v → (IsIn v.place → ⊥) → (IsIn w.place → ⊥) → Where events fits s log o → Where events fits (record { words = ws; homes = s.homes; views = slice_set s.views id w }) log o
   where_set s ws log o id v w at out out' (AtHome x home is fit nobody_in) =
       AtHome x home is fit (λ j p h in'. let e : get_elem? (slice_set (map place_of s.views) id w.place) j ≡ some p = ap (λ l. get_elem? l j) (sym (map_set place_of s.views id w)) ∙ h in
-        elim (at_set (map place_of s.views) id j w.place p e) [ inl q ↦ out' (subst IsIn (sym q.1) in') | inr q ↦ nobody_in j p q.1 in' ])
+      elim (at_set (map place_of s.views) id j w.place p e) [ inl q ↦ out' (subst IsIn (sym q.1) in') | inr q ↦ nobody_in j p q.1 in' ])
   where_set s ws log o id v w at out out' (WithSeat i x hx is_in seen others) =
       let ne : i ≢ id = λ e. let same : x ≡ v = some-injective x v (sym hx ∙ (ap (get_elem? s.views) e ∙ at)) in out (subst (λ (z : V). IsIn z.place) same is_in) in
       WithSeat i x (set_else s.views id i w ne ∙ hx) is_in seen (λ j p h in'. let e : get_elem? (slice_set (map place_of s.views) id w.place) j ≡ some p = ap (λ l. get_elem? l j) (sym (map_set place_of s.views id w)) ∙ h in
-        elim (at_set (map place_of s.views) id j w.place p e) [ inl q ↦ absurd (out' (subst IsIn (sym q.1) in')) | inr q ↦ others j p q.1 in' ])
+      elim (at_set (map place_of s.views) id j w.place p e) [ inl q ↦ absurd (out' (subst IsIn (sym q.1) in')) | inr q ↦ others j p q.1 in' ])
 
   -- 1: a ticket is drawn
   drawn_kept : (s : State (Option B) V) (id : ℕ) (v : V) (c : List (ℕ × Option B)) (n : ℕ) → v.place ≡ Out → get_elem? s.views id ≡ some v → slice_index s.words 0 ≡ n → n + 1 < 2 ^ 64 → Kept s → Kept (stepped s 0 (n + 1) id c (record v { place = Waiting n }) keeps)
@@ -134,7 +131,7 @@ module _ {B E O : Type 0} (by : E → ℕ) (events : B → List E) (opens : B �
               one = length-set s.homes 0 none ∙ k.one;
               tickets = subst (Tickets k.ticket n) (sym ps) (subst (λ m. Tickets k.ticket m (slice_set (map place_of s.views) id (InTurn n))) serving_is (tickets_enter k.ticket k.serving (map place_of s.views) id n at_place serving_is k.tickets));
               book = WithSeat id w (set_here s.views id w (inside s.views id v at)) tt (sym is) (λ j p h in'. let e : get_elem? (slice_set (map place_of s.views) id (InTurn n)) j ≡ some p = ap (λ l. get_elem? l j) (sym ps) ∙ h in
-                elim (at_set (map place_of s.views) id j (InTurn n) p e) [ inl q ↦ q.0 | inr q ↦ absurd (nobody_in j p q.1 in') ]);
+                  elim (at_set (map place_of s.views) id j (InTurn n) p e) [ inl q ↦ q.0 | inr q ↦ absurd (nobody_in j p q.1 in') ]);
               knows = each_set (Knows by k.log k.opening) s.views id w k.knows (record { seen = whole; also = kn.also; claims = kn.claims; drawn = kn.drawn; opened = λ a. kn.opened alive; begun = λ a. kn.begun alive; named = λ a. kn.named alive; nothing = λ a. absurd (a tt); lastly = λ q. absurd cc });
               unheard = k.unheard;
               counts = subst (Counts k.dealt) (sym sts) k.counts;
@@ -243,17 +240,17 @@ module _ {B E O : Type 0} (by : E → ℕ) (events : B → List E) (opens : B �
       let has : 0 < times n (held v.holding) = omega (arith, split_times, mine) in
       let below : n < k.dealt = below_numbers s id v n at has k in
       let once : times n (map number_of v.holding.claims) ≤ 1 = (
-        let f : Holding E → ℕ = λ st. times n (held st) in
-        let one : f v.holding ≤ total f (map holding_of s.views) = total_one f (map holding_of s.views) id v.holding (at_map holding_of s.views id v at) in
-        let all : total f (map holding_of s.views) ≡ one_if (nat_lt n k.dealt) = k.counts.once n in
-        let most = one_if_most (nat_lt n k.dealt) in
-        omega (arith, one, all, most, split_times)) in
+      let f : Holding E → ℕ = λ st. times n (held st) in
+      let one : f v.holding ≤ total f (map holding_of s.views) = total_one f (map holding_of s.views) id v.holding (at_map holding_of s.views id v at) in
+      let all : total f (map holding_of s.views) ≡ one_if (nat_lt n k.dealt) = k.counts.once n in
+      let most = one_if_most (nat_lt n k.dealt) in
+      omega (arith, one, all, most, split_times)) in
       let none_drawn : times n v.holding.drawn ≡ 0 = (
-        let f : Holding E → ℕ = λ st. times n (held st) in
-        let one : f v.holding ≤ total f (map holding_of s.views) = total_one f (map holding_of s.views) id v.holding (at_map holding_of s.views id v at) in
-        let all : total f (map holding_of s.views) ≡ one_if (nat_lt n k.dealt) = k.counts.once n in
-        let most = one_if_most (nat_lt n k.dealt) in
-        omega (arith, one, all, most, split_times, mine)) in
+      let f : Holding E → ℕ = λ st. times n (held st) in
+      let one : f v.holding ≤ total f (map holding_of s.views) = total_one f (map holding_of s.views) id v.holding (at_map holding_of s.views id v at) in
+      let all : total f (map holding_of s.views) ≡ one_if (nat_lt n k.dealt) = k.counts.once n in
+      let most = one_if_most (nat_lt n k.dealt) in
+      omega (arith, one, all, most, split_times, mine)) in
       let settle : (z : Option O) → v.opening ≡ z → (k.opening ≡ or_opens opens z b) ⊎ (k.opening ≡ None) = elim [
         | Some q ↦ (λ e. inl (sym (kn.opened alive) ∙ e))
         | None ↦ (λ e. inr (sym (kn.opened alive) ∙ e))
@@ -278,27 +275,27 @@ module _ {B E O : Type 0} (by : E → ℕ) (events : B → List E) (opens : B �
         one = length-set s.homes 0 (some (Some b)) ∙ k.one;
         tickets = subst (Tickets ticket serving) (sym ps) tickets;
         book = AtHome (Some b) (set_here s.homes 0 (some (Some b)) (let l = k.one in omega (arith, l))) (sym log_is) fit (λ j p h in'. let e : get_elem? (slice_set (map place_of s.views) id Out) j ≡ some p = ap (λ l. get_elem? l j) (sym ps) ∙ h in
-          elim (at_set (map place_of s.views) id j Out p e) [ inl q ↦ subst IsIn (sym q.1) in' | inr q ↦ q.0 (hold.1 j p q.1 in') ]);
+            elim (at_set (map place_of s.views) id j Out p e) [ inl q ↦ subst IsIn (sym q.1) in' | inr q ↦ q.0 (hold.1 j p q.1 in') ]);
         knows = λ j u h. elim (at_set s.views id j w u h) [
           | inl e ↦ subst (Knows by (k.log ++ more) o) e.1 (record {
-              seen = subst (λ l. IsPrefix (events b) l) log_is (prefix_self (events b));
-              also = prefix_grows v.also k.log more kn.also;
-              claims = subst (λ m. Account by (k.log ++ more) (grown m v.holding.claims)) (sym es_is) (own_grows by n k.log more v.holding.claims own once are kn.claims);
-              drawn = unheard_grows by n k.log more v.holding.drawn none_drawn are kn.drawn;
-              opened = λ a. refl;
-              begun = λ a e. absurd (never_none v.opening b e);
-              named = λ a. grown_long by es v.holding.claims (kn.named alive);
-              nothing = λ a. absurd (a tt);
-              lastly = λ q. absurd cc;
-            })
+            seen = subst (λ l. IsPrefix (events b) l) log_is (prefix_self (events b));
+            also = prefix_grows v.also k.log more kn.also;
+            claims = subst (λ m. Account by (k.log ++ more) (grown m v.holding.claims)) (sym es_is) (own_grows by n k.log more v.holding.claims own once are kn.claims);
+            drawn = unheard_grows by n k.log more v.holding.drawn none_drawn are kn.drawn;
+            opened = λ a. refl;
+            begun = λ a e. absurd (never_none v.opening b e);
+            named = λ a. grown_long by es v.holding.claims (kn.named alive);
+            nothing = λ a. absurd (a tt);
+            lastly = λ q. absurd cc;
+          })
           | inr e ↦ reopen (k.log ++ more) k.opening o u (knows_grows by n k.log more k.opening u (others_none s id j v u n at e.1 e.0 has k) are (k.knows j u e.1)) (settled j u e.1 e.0)
         ];
         unheard = λ x le.
-          let ne : n ≢ x = λ e. absurd (omega (arith, le, below, e)) in
-          let t : told_by by x (k.log ++ more) ≡ told_by by x k.log ++ told_by by x more = filter-append (λ (e : E). by e == x) k.log more in
-          let a : told_by by x k.log ≡ [] = k.unheard x le in
-          let c : told_by by x more ≡ [] = told_other by n x more ne are in
-          t ∙ (ap (λ z. z ++ told_by by x more) a ∙ c);
+            let ne : n ≢ x = λ e. absurd (omega (arith, le, below, e)) in
+            let t : told_by by x (k.log ++ more) ≡ told_by by x k.log ++ told_by by x more = filter-append (λ (e : E). by e == x) k.log more in
+            let a : told_by by x k.log ≡ [] = k.unheard x le in
+            let c : told_by by x more ≡ [] = told_other by n x more ne are in
+            t ∙ (ap (λ z. z ++ told_by by x more) a ∙ c);
         counts = subst (Counts k.dealt) (sym sts) (counts_set k.dealt (map holding_of s.views) id v.holding w.holding at_holding (λ x. ap (times x) numbers) (ap (length {A = ℕ}) numbers) k.counts);
         alone = alone_set s.views id v w at alive (λ h. h) k.alone;
         family = subst (Family k.dealt) (sym sts) (family_set k.dealt (map holding_of s.views) id v.holding w.holding at_holding (λ x h. subst (λ l. 0 < times x l) (sym names) h) (λ x h. subst (λ l. 0 < times x (l ++ (v.holding.made ++ v.holding.drawn))) (sym names) h) k.family);
@@ -339,10 +336,10 @@ module _ {B E O : Type 0} (by : E → ℕ) (events : B → List E) (opens : B �
       let kept : Kept (stepped s 2 (slice_index s.words 2) id me.1 w gives) = rw held (last_kept s id me.0 b last may at k) in
       (w, gives, tt, kept, λ c is. let e = sym held ∙ is in let same : b ≡ c = ap (held_first b) e in λ x. (after_turn events opens me.0 (same x), ap rest held x))
 
-  -- a step after which the seat has another list of what it saw, or is alone
-  pub tuned_kept : (s : State (Option B) V) (i id : ℕ) (v w : V) (c : List (ℕ × Option B)) → get_elem? s.words i ≡ some (slice_index s.words i) → v.place ≡ Out → w.place ≡ Out → get_elem? s.views id ≡ some v → (k : Kept s) → Knows by k.log k.opening w → Alone (slice_set s.views id w)
+  -- a step that reads a word, after which the seat has seen another list, counted, or knows that it is alone
+  pub read_kept : (s : State (Option B) V) (i id : ℕ) (v w : V) (c : List (ℕ × Option B)) → get_elem? s.words i ≡ some (slice_index s.words i) → v.place ≡ Out → w.place ≡ Out → get_elem? s.views id ≡ some v → (k : Kept s) → Knows by k.log k.opening w → Alone (slice_set s.views id w)
       → held w.holding ≡ held v.holding → claimed w.holding ≡ claimed v.holding → known w.holding ≡ known v.holding → IsDealt k.dealt w.holding → Kept (stepped s i (slice_index s.words i) id c w keeps)
-  tuned_kept s i id v w c at_word out out' at k kw alone numbers names all_known dealt_w =
+  read_kept s i id v w c at_word out out' at k kw alone numbers names all_known dealt_w =
       let ws : slice_set s.words i (slice_index s.words i) ≡ s.words = set_again s.words i (slice_index s.words i) at_word in
       let ps : map place_of (slice_set s.views id w) ≡ map place_of s.views = map_set_same place_of s.views id v w at (out' ∙ sym out) in
       let sts : map holding_of (slice_set s.views id w) ≡ slice_set (map holding_of s.views) id w.holding = map_set holding_of s.views id w in

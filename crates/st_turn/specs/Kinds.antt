@@ -4,7 +4,6 @@ use mathlib.Core.List.{IsPrefix}
 use Rattle.atomic_table.specs.Table.{Me, Step}
 use Rattle.st_turn.specs.declared.standing.Place.TheVariants.{Out, Waiting, InTurn, Last}
 use Rattle.st_turn.specs.declared.standing.Claim.{Claim}
-use Rattle.st_turn.specs.declared.standing.Holding.{Holding}
 use Rattle.st_turn.specs.declared.standing.Standing.{Standing}
 use Rattle.st_turn.specs.Lists.{IsAmong, AreBy, told_by, Account, grown, longer}
 use Rattle.st_turn.specs.Parts.{claimed, held}

@@ -1,14 +1,13 @@
 -- The parts of the turn's rule, each over the one part of the views that it speaks of.
-use Rattle.std.specs.Prelude.{ℕ, ◌≡◌, ◌≢◌, ◌<◌, ◌≤◌, Bool, true, List, [], ◌++◌, map, length, nat_lt, Option, Some, None}
+use Rattle.std.specs.Prelude.{ℕ, ◌≡◌, ◌≢◌, ◌<◌, ◌≤◌, true, List, [], ◌++◌, map, length, nat_lt, Option, None}
 use mathlib.Core.Option.{some}
 use mathlib.Core.List.{IsPrefix}
 use lib.ListN.{get_elem?}
 use Rattle.st_turn.specs.declared.standing.Place.{Place}
 use Rattle.st_turn.specs.declared.standing.Place.TheVariants.{Out, Waiting, InTurn, Last, Spent}
-use Rattle.st_turn.specs.declared.standing.Claim.{Claim}
 use Rattle.st_turn.specs.declared.standing.Holding.{Holding}
 use Rattle.st_turn.specs.declared.standing.Standing.{Standing}
-use Rattle.st_turn.specs.Lists.{IsAmong, times, total, one_if, Each, told_by, Account, Unheard, number_of}
+use Rattle.st_turn.specs.Lists.{IsAmong, times, total, one_if, Account, Unheard, number_of}
 
 -- the place has this ticket
 abbrev pub Has : ℕ → Place → Type 0

@@ -5,8 +5,6 @@ use lib.ListN.{get_elem?}
 use Rattle.atomic_table.specs.Table.{State}
 use Rattle.st_turn.specs.declared.standing.Place.{Place}
 use Rattle.st_turn.specs.declared.standing.Place.TheVariants.{Out, Spent}
-use Rattle.st_turn.specs.declared.standing.Claim.{Claim}
-use Rattle.st_turn.specs.declared.standing.Holding.{Holding}
 use Rattle.st_turn.specs.declared.standing.Standing.{Standing}
 use Rattle.st_turn.specs.Lists.{Each, told_by}
 use Rattle.st_turn.specs.Parts.{IsIn, place_of, holding_of, Tickets, Counts, Family, IsDealt, Alone, Knows}

@@ -6,7 +6,7 @@ use Rattle.st_turn.specs.declared.standing.Place.{Place}
 use Rattle.st_turn.specs.declared.standing.Place.TheVariants.{Out, Waiting, InTurn, Last, Spent}
 use Rattle.st_turn.specs.declared.standing.Claim.{Claim}
 use Rattle.st_turn.specs.declared.standing.Standing.{Standing}
-use Rattle.st_turn.specs.Views.{SeatView, first_seat}
+use Rattle.st_turn.specs.Views.{SeatView}
 use Rattle.st_turn.specs.Ruling.{blank_view}
 use Rattle.st_turn.specs.Kinds.{IsOwn}
 

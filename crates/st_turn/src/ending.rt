@@ -46,9 +46,9 @@ impl<B: Logged> Turn<B> {
         ensures later { IfErr result (λ back. seat.counted ≤ back.2 + length (numbers_of seat)) }
     {
         let mut seat = seat;
-        let others = count(&self.table.shared, &mut seat.seat) - seat.claimed;
-        if others > 0 {
-            return Err((self, seat, others));
+        let left = count(&self.table.shared, &mut seat.seat) - seat.claimed;
+        if left > 0 {
+            return Err((self, seat, left));
         }
         let Turn { table } = self;
         let SeatOf {

@@ -133,11 +133,7 @@ pub fn take_alone<B: Logged>(table: &TurnTable<B>, seat: &mut TableSeat<B>) -> O
 }
 
 /// Draws this number, where it is still the next. Gives the next number as it was.
-pub fn draw_number<B: Logged>(
-    table: &TurnTable<B>,
-    seat: &mut TableSeat<B>,
-    number: u64,
-) -> u64
+pub fn draw_number<B: Logged>(table: &TurnTable<B>, seat: &mut TableSeat<B>, number: u64) -> u64
     requires words { table.now.table_id.words ≡ 3 }
     requires here { seat.old.table_id ≡ table.now.table_id }
     requires out { seat.old.me.0.place ≡ Out }

@@ -7,9 +7,8 @@ ghost use Rattle.st_turn.specs.Seated.{IsOpen};
 use crate::kinds::{SERVING, TICKET};
 use crate::logged::Logged;
 use crate::steps::{TableSeat, TurnTable, draw, enter};
-use std::hint;
 use std::sync::Wait;
-use std::thread;
+use std::{hint, thread};
 
 // How often a seat looks before it yields its processor, and how often it looks in all before it sleeps: most turns are
 // shorter than a sleep.
@@ -18,11 +17,7 @@ const SPINS: u32 = 100;
 const LOOKS: u32 = 110;
 
 /// Draws the next ticket.
-pub fn draw_ticket<B: Logged>(
-    rt: &impl Wait,
-    table: &TurnTable<B>,
-    seat: &mut TableSeat<B>,
-) -> u64
+pub fn draw_ticket<B: Logged>(rt: &impl Wait, table: &TurnTable<B>, seat: &mut TableSeat<B>) -> u64
     requires words { table.now.table_id.words ≡ 3 }
     requires here { seat.old.table_id ≡ table.now.table_id }
     requires out { seat.old.me.0.place ≡ Out }

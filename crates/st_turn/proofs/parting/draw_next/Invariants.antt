@@ -1,4 +1,4 @@
-use Rattle.std.proofs.Common.{ℕ, ◌≡◌, ◌≤◌, ◌-◌, ◌^◌, []}
+use Rattle.std.proofs.Common.{◌≡◌, ◌≤◌, ◌-◌, []}
 use Rattle.st_turn.specs.Kinds.{SameBut}
 use Rattle.st_turn.proofs.parting.draw_next.Given as goal
 

@@ -1,5 +1,5 @@
 use Rattle.std.proofs.Common.{arith}
-use Rattle.st_turn.proofs.Ends.{count_allows}
+use Rattle.st_turn.proofs.Counting.{count_allows}
 use Rattle.st_turn.proofs.steps.count.Goals as goal
 
 pub load-requires : goal.load-requires

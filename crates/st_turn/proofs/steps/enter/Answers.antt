@@ -1,4 +1,4 @@
-use Rattle.std.proofs.Common.{arith, sym, ap, ◌∙◌, ◌≡◌, ◌∷◌, ℕ, List}
+use Rattle.std.proofs.Common.{arith, sym, ap, ◌∙◌, ◌∷◌, ℕ, List}
 use Rattle.std.specs.Prelude.{Option}
 use Rattle.atomic_table.specs.Table.{Me, rest}
 use Rattle.st_turn.specs.declared.standing.Place.TheVariants.{Waiting}

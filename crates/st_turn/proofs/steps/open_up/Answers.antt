@@ -1,6 +1,5 @@
-use Rattle.std.proofs.Common.{◌≡◌, ◌⊎◌, ℕ, [], sym, ◌∙◌, subst}
+use Rattle.std.proofs.Common.{◌≡◌, ◌⊎◌, [], sym, ◌∙◌, subst}
 use Rattle.std.specs.Prelude.{Option, Some, None}
-use mathlib.Core.Option.{some-injective}
 use Rattle.st_turn.specs.Lists.{IsAmong, told_by}
 use Rattle.st_turn.specs.Parts.{held}
 use Rattle.st_turn.specs.Kinds.{Found}

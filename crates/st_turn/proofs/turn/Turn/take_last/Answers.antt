@@ -1,4 +1,4 @@
-use Rattle.std.proofs.Common.{arith, ap, ◌≡◌, length, List, ℕ}
+use Rattle.std.proofs.Common.{arith, ap, ◌≡◌, length}
 use Rattle.std.specs.Prelude.{Option}
 use Rattle.atomic_table.specs.Table.{Me}
 use Rattle.st_turn.specs.declared.standing.Standing.{Standing}
