@@ -64,6 +64,7 @@ pub fn enter<B: Logged>(
     ensures book { IfOk result (λ b. Found B.by B.events B.fits seat.old.me.0 (Some b)) }
     ensures view { IfOk result (λ b. seat.new.me ≡ (record seat.old.me.0 { place = InTurn ticket; seen = B.events b }, (0, None) ∷ [])) }
     ensures same { OnErr result (seat.new.me ≡ seat.old.me) }
+    ensures other { IfErr result (λ serving. ¬ (serving ≡ ticket)) }
 {
     let serving = table.load::<Enter<B>>(seat, SERVING);
     if serving != ticket {

@@ -10,11 +10,11 @@ use crate::steps::{TableSeat, TurnTable, draw, enter};
 use std::sync::Wait;
 use std::{hint, thread};
 
-// How often a seat looks before it yields its processor, and how often it looks in all before it sleeps: most turns are
-// shorter than a sleep.
-const SPINS: u32 = 100;
+// A seat looks so often with a short pause, and so often in all before it sleeps; between, it yields its processor after
+// each look. Most turns are shorter than a sleep, and looks for about a millisecond cost no more than one.
+const SPINS: u32 = 50;
 
-const LOOKS: u32 = 110;
+const LOOKS: u32 = 1_050;
 
 /// Draws the next ticket.
 pub fn draw_ticket<B: Logged>(rt: &impl Wait, table: &TurnTable<B>, seat: &mut TableSeat<B>) -> u64
