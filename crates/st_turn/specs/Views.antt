@@ -1,5 +1,5 @@
 -- What contracts see of a seat, and what each call makes of it.
-use Rattle.std.specs.Prelude.{ℕ, ◌≡◌, ◌+◌, Bool, true, false, List, [], ◌∷◌, ◌++◌, map, length, max, Option, Some}
+use Rattle.std.specs.Prelude.{ℕ, ◌≡◌, ◌+◌, Bool, true, false, List, [], ◌∷◌, ◌++◌, map, drop, length, max, Option, Some}
 use mathlib.Core.List.{IsPrefix}
 use Rattle.atomic_table.specs.Seated.{TableId}
 use Rattle.st_turn.specs.declared.standing.Claim.{Claim}
@@ -61,9 +61,9 @@ first_seat id o = record { turn = id; number = 0; is_in = false; seen = []; own 
 abbrev pub with_book : {E O : Type 0} → SeatView E O → List E → SeatView E O
 with_book v log = record v { is_in = true; seen = log }
 
--- the seat after it gave the book back with these events more
+-- the seat after it gave the book back with this log: what the log has more is the seat's own
 abbrev pub after_put : {E O : Type 0} → SeatView E O → List E → SeatView E O
-after_put v more = record v { is_in = false; seen = v.seen ++ more; own = v.own ++ more }
+after_put v log = record v { is_in = false; seen = log; own = v.own ++ drop (length v.seen) log }
 
 -- the seat after the number n was split off it
 abbrev pub after_split : {E O : Type 0} → SeatView E O → ℕ → SeatView E O

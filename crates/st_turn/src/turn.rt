@@ -92,7 +92,8 @@ impl<B: Logged> Turn<B> {
         requires here { seat.old.turn ≡ self.now }
         requires in_turn { seat.old.is_in ≡ true }
         requires book { (more : List B.Event) × GoesOn B.by B.events B.fits seat.old book more }
-        ensures view { (more : List B.Event) → B.events book ≡ seat.old.seen ++ more → seat.new ≡ after_put seat.old more }
+        ensures view { seat.new ≡ after_put seat.old (B.events book) }
+        ensures own { (more : List B.Event) → B.events book ≡ seat.old.seen ++ more → seat.new.own ≡ seat.old.own ++ more }
     {
         if seat.last {
             leave_last(&self.table.shared, &mut seat.seat, book);
