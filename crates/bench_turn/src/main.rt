@@ -3,9 +3,8 @@
 
 mod roll;
 
-use std::env;
-use std::io;
 use std::time::Instant;
+use std::{env, io};
 
 // How many turns there are in all, for each number of threads.
 const TURNS: u64 = 400_000;
@@ -19,7 +18,10 @@ fn main(rt: HostRuntime) -> io::Result<()> {
         let turns = roll::time_turns(&rt, rt.alloc(), threads as usize, TURNS / threads);
         let micros = start.elapsed(&rt)?.as_micros().max(1);
         match turns {
-            Some(turns) => println!(rt; "{threads} threads: {turns} turns, {} a second", turns as u128 * 1_000_000 / micros)?,
+            Some(turns) => println!(rt;
+                "{threads} threads: {turns} turns, {} a second",
+                turns as u128 * 1_000_000 / micros
+            )?,
             None => println!(rt; "{threads} threads: no memory")?,
         }
     }

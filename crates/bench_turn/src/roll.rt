@@ -111,9 +111,12 @@ pub fn time_turns<R: Threads + Wait + Sync>(
     let (turn, mut one) = Turn::make(alloc, roll).ok()?;
     let mut seats = split_seats(alloc, &turn, &mut one, threads);
     let count = seats.len().max(1);
-    thread::for_each_mut(rt, &mut seats, count, &|_, seat| {
-        sign_often(rt, &turn, seat, times)
-    });
+    thread::for_each_mut(
+        rt,
+        &mut seats,
+        count,
+        &|_, seat| { sign_often(rt, &turn, seat, times) },
+    );
     join_seats(&turn, &mut one, seats);
     match turn.close(one) {
         Ok(roll) => Some(roll.seats.len()),

@@ -80,6 +80,6 @@ claim_of v = record { number = v.number; events = v.own }
 abbrev pub after_join : {E O : Type 0} → SeatView E O → SeatView E O → SeatView E O
 after_join v w = record v { seen = longer v.seen w.seen; taken_over = v.taken_over ++ claim_of w ∷ w.taken_over; made = v.made ++ w.made; counted = max v.counted w.counted }
 
--- so many numbers were dealt that the seat doesn't answer for
+-- the seat once it counted: n numbers were dealt that it doesn't answer for
 abbrev pub with_others : {E O : Type 0} → SeatView E O → ℕ → SeatView E O
 with_others v n = record v { counted = n + length (numbers_of v) }

@@ -16,9 +16,11 @@ impl<B: Logged> Turn<B> {
         requires out { seat.old.is_in ≡ false }
         ensures all { OnOk result (HasAll (numbers_of seat.old) seat.old.made) }
         ensures book { IfOk result (λ book. IsLent B.by B.events B.fits seat.old book) }
+        // Each event is of a number that the seat answers for.
         ensures mine { IfOk result (λ book. AreAmong B.by (numbers_of seat.old) (B.events book)) }
         ensures view { IfOk result (λ book. seat.new ≡ with_book (with_others seat.old 0) (B.events book)) }
         ensures outstanding { IfErr result (λ n. (0 < n) × ¬ (HasAll (numbers_of seat.old) seat.old.made)) }
+        // The n seats, and the numbers that this one answers for, are all that were dealt. Nothing else changes.
         ensures same { IfErr result (λ n. seat.new ≡ with_others seat.old n) }
         ensures later { IfErr result (λ n. seat.old.counted ≤ n + length (numbers_of seat.old)) }
     {
@@ -40,8 +42,10 @@ impl<B: Logged> Turn<B> {
         requires out { seat.is_in ≡ false }
         ensures all { OnOk result (HasAll (numbers_of seat) seat.made) }
         ensures book { IfOk result (λ book. IsLent B.by B.events B.fits seat book) }
+        // Each event is of a number that the seat answers for.
         ensures mine { IfOk result (λ book. AreAmong B.by (numbers_of seat) (B.events book)) }
         ensures outstanding { IfErr result (λ back. (0 < back.2) × ¬ (HasAll (numbers_of seat) seat.made)) }
+        // The seats outstanding, and the numbers that this one answers for, are all that were dealt.
         ensures same { IfErr result (λ back. (back.0 ≡ self) × (back.1 ≡ with_others seat back.2)) }
         ensures later { IfErr result (λ back. seat.counted ≤ back.2 + length (numbers_of seat)) }
     {

@@ -40,7 +40,9 @@ impl<B: Logged> Turn<B> {
         requires here { seat.old.turn ≡ self.now }
         requires out { seat.old.is_in ≡ false }
         ensures split { IfOk result (λ new. (seat.new ≡ after_split seat.old new.number) × (new ≡ new_seat seat.old new.number)) }
+        // No number that the seat counted: the numbers that are split off one seat rise.
         ensures fresh { IfOk result (λ new. seat.old.counted ≤ new.number) }
+        // It is refused where every number is dealt, and nowhere else.
         ensures full { OnErr result (seat.new ≡ record seat.old { counted = 2 ^ 64 - 1 }) }
     {
         match draw_next(&self.table.shared, &mut seat.seat) {
