@@ -3,8 +3,5 @@
 
 #[cfg(test)]
 mod lines;
-//! The tests of the layers, by topic: worked rows, and real threads.
-#![tactic(auto)]
-
 #[cfg(test)]
 mod turn;
