@@ -8,3 +8,5 @@ mod lines;
 
 #[cfg(test)]
 mod grants;
+#[cfg(test)]
+mod turn;
