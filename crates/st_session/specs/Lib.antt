@@ -13,3 +13,5 @@ pub mod Out
 pub mod Printing
 
 pub mod Running
+
+pub mod Statuses

@@ -4,6 +4,10 @@
 mod lines;
 mod opening;
 mod output;
+mod run;
 mod session;
+mod top;
 
+pub use run::{Outcome, Status};
 pub use session::{Answer, Session};
+pub use top::run_words;

@@ -44,6 +44,7 @@ impl From<Failed> for Stop {
 }
 
 /// What a line is answered, and whether its code is 0.
+#[derive(Drop)]
 struct LineText {
     text: Bytes,
     ok: bool,

@@ -1,21 +1,8 @@
-ghost use Rattle.std.specs.Prelude.{ℕ, ◌≡◌, ◌↔◌, ◌<◌, ◌≤◌, [], Some, None, map, length, string_bytes, IfOk, IfSome};
-ghost use Rattle.st_lines.specs.Causes.{Rose};
-ghost use Rattle.st_model.specs.History.{History};
-ghost use Rattle.st_words.specs.Command.{words_of};
-ghost use Rattle.st_session.specs.Headline.{IsDone, IsCutOff};
-ghost use Rattle.st_session.specs.Opening.{IsFit, opening};
+ghost use Rattle.std.specs.Prelude.{◌≡◌, []};
 
-use crate::lines::run_lines;
-use crate::opening::opening;
-use crate::output::{Stop, write_out};
-use crate::session::Session;
-use st_lines::{Limit, Lines, MOST_BYTES, ReadStop, Sink, Source, read_lines};
-use st_model::{Gate, Log};
-use st_rack::Rack;
-use st_words::{Words, WordsFault, read_words};
+use st_lines::Limit;
+use st_model::Log;
 use std::alloc::Global;
-use std::sync::Wait;
-use std::thread::Threads;
 
 /// How a run ended.
 #[derive(Clone, Copy, Debug, PartialEq, Eq)]
@@ -38,4 +25,19 @@ pub struct Outcome<R> {
     pub status: Status,
     pub rack: R,
     pub log: Log,
+}
+
+impl<R> Outcome<R> {
+    /// A run that ended before any line was run.
+    pub(crate) fn early(alloc: Global, status: Status, rack: R) -> Outcome<R>
+        ensures status { result.status ≡ status }
+        ensures rack { result.rack ≡ rack }
+        ensures log { result.log.items ≡ [] }
+    {
+        Outcome {
+            status,
+            rack,
+            log: Log::make(alloc),
+        }
+    }
 }
