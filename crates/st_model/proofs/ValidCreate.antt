@@ -122,9 +122,10 @@ AllApart-end (p ∷ ps) q h g = (All-end (Apart p) ps q h.0 g.0, AllApart-end ps
 all_apart : (next : ℕ) (name : Text) (devices : List Text) (q : PoolState) (pools : List PoolState) → IsNewOn next name devices q → AllByRecursion (IsValidPool next) pools → AllByRecursion (λ p. holds name p ≡ false) pools → AllByRecursion (FreeOf pools) devices
     → AllByRecursion (λ p. Apart p q) pools
 all_apart next name devices q [] new valid other free = tt
-all_apart next name devices q (p ∷ ps) new valid other free =
-    (apart_from next name devices p q new valid.0.serial other.0 (λ path here. at_path (λ x. uses x p ≡ false) path devices (All-weaker _ _ devices (λ x h. h.0) free) here),
-     all_apart next name devices q ps new valid.1 other.1 (All-weaker _ _ devices (λ x h. h.1) free))
+all_apart next name devices q (p ∷ ps) new valid other free = (
+  apart_from next name devices p q new valid.0.serial other.0 (λ path here. at_path (λ x. uses x p ≡ false) path devices (All-weaker _ _ devices (λ x h. h.0) free) here),
+  all_apart next name devices q ps new valid.1 other.1 (All-weaker _ _ devices (λ x h. h.1) free),
+)
 
 later : (n : ℕ) (p : PoolState) → IsValidPool n p → IsValidPool (n + 1) p
 later n p h = record { serial = omega (arith, h.serial); from_one = h.from_one; devices = h.devices }
@@ -163,7 +164,7 @@ plain_keeps s name paths (Some r) reply f valid = valid
 plain_keeps s name paths None reply f valid =
     let fresh = f refl in
     with_new s name paths _ valid fresh (new_is_new s.next name s.devices (distinct paths))
-      (record { few = rw (length-rows s.devices (distinct paths)) fresh.few; small = small_rows s.devices (distinct paths) valid.rack })
+    (record { few = rw (length-rows s.devices (distinct paths)) fresh.few; small = small_rows s.devices (distinct paths) valid.rack })
 
 pub create_plain-IsValid : (s : EngineState) (name : Text) (paths : List Text) → IsValid s → IsValid (create_plain s name paths).1
 unfolding create_plain

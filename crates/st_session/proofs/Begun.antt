@@ -1,10 +1,13 @@
 -- the state in which a run begins is valid
-use Rattle.std.proofs.Common.{◌≡◌, ℕ, ◌≤◌, ◌^◌, List, [], ◌∷◌, length, Option, Some, None, unwrap_or, lit≤, refl, ap, suc, arith}
+use Rattle.std.proofs.Common.{◌≡◌, ℕ, ◌+◌, ◌<◌, ◌≤◌, ◌^◌, List, [], ◌∷◌, ◌++◌, length, drop, get_or, Option, Some, None, unwrap_or, lit≤, refl, sym, ◌∙◌, ap, suc, arith, add-one, append_assoc}
+use Rattle.std.proofs.lemmas.Option.{slice_get-get_or}
+use Rattle.std.specs.Prelude.{slice_get, IfSome}
 use Rattle.std.specs.List.{AllByRecursion}
 use Rattle.st_units.specs.declared.rows.DevRow.{DevRow}
 use Rattle.st_rack.specs.Calls.{Devices, sectors_of}
 use Rattle.st_rack.specs.Device.{Path}
 use Rattle.st_model.specs.Valid.{IsValid}
+use Rattle.st_session.proofs.Places.{drop_at}
 use Rattle.st_session.specs.Opening.{row_of, rows_of, opening, IsFit}
 
 length-rows_of : (devs ds : Devices) → length (rows_of devs ds) ≡ length ds
@@ -27,3 +30,14 @@ opening-IsValid devs fit = record {
   pools = tt;
   apart = tt;
 }
+
+-- the rows so far with one more
+pub row_step : (devs : Devices) (i : ℕ) (rows : List DevRow) (row : DevRow) → i < length devs → IfSome (slice_get devs i) (λ d. row ≡ row_of devs d) → rows ++ rows_of devs (drop i devs) ≡ rows_of devs devs
+    → (rows ++ row ∷ []) ++ rows_of devs (drop (i + 1) devs) ≡ rows_of devs devs
+row_step devs i rows row lt is h =
+    let none : Path × ℕ = ([], 0) in
+    let d : Path × ℕ = get_or devs i none in
+    let found : slice_get devs i ≡ Some d = slice_get-get_or devs i none lt in
+    let row_is : row ≡ row_of devs d = rw found at is in
+    let split : drop i devs ≡ d ∷ drop (i + 1) devs = drop_at devs i d found ∙ ap (λ (n : ℕ). d ∷ drop n devs) (sym (add-one i)) in
+    append_assoc rows (row ∷ []) (rows_of devs (drop (i + 1) devs)) ∙ ap (λ (r : DevRow). rows ++ r ∷ rows_of devs (drop (i + 1) devs)) row_is ∙ ap (λ (ds : Devices). rows ++ rows_of devs ds) (sym split) ∙ h

@@ -38,3 +38,12 @@ pub printing_end : (before old new : Option (List ℕ)) (waiting whole : List �
 printing_end before old new waiting whole h took =
     let makes : h.written ++ waiting ≡ whole = ap (λ t. h.written ++ t) (sym (append-nil waiting)) ∙ h.makes in
     subst (Appends before new) makes (Appends-more before old new h.written waiting h.took took)
+
+-- what follows from an answer follows where that answer came
+pub ok_then : {T E : Type 0} (r : Result T E) (A B : Type 0) → (A → B) → OnOk r A → OnOk r B
+ok_then (Ok t) A B f h = f h
+ok_then (Err e) A B f h = tt
+
+pub err_then : {T E : Type 0} (r : Result T E) (A B : Type 0) → (A → B) → OnErr r A → OnErr r B
+err_then (Ok t) A B f h = tt
+err_then (Err e) A B f h = f h
