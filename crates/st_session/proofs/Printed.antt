@@ -47,3 +47,16 @@ ok_then (Err e) A B f h = tt
 pub err_then : {T E : Type 0} (r : Result T E) (A B : Type 0) → (A → B) → OnErr r A → OnErr r B
 err_then (Ok t) A B f h = tt
 err_then (Err e) A B f h = f h
+
+pub on_err : {T E : Type 0} (r : Result T E) (A : Type 0) → A → OnErr r A
+on_err (Ok t) A h = tt
+on_err (Err e) A h = h
+
+-- the bytes that wait were cut off
+pub printing_cut_end : (before old new : Option (List ℕ)) (waiting whole : List ℕ) (n : ℕ) → Printing before old waiting [] whole → Appends old new (take n waiting) → Started before new whole
+printing_cut_end before old new waiting whole n h took =
+    printing_cut before old new waiting [] [] whole n h (subst (λ (t : List ℕ). Appends old new (take n t)) (sym (append-nil waiting)) took)
+
+-- a first piece of the rest, in other words
+pub printing_as : (before now : Option (List ℕ)) (waiting rest rest' whole : List ℕ) → rest ≡ rest' → Printing before now waiting rest whole → Printing before now waiting rest' whole
+printing_as before now waiting rest rest' whole e h = subst (λ (r : List ℕ). Printing before now waiting r whole) e h

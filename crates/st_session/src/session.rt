@@ -15,7 +15,7 @@ pub(crate) const LANES: u8 = 1;
 const SEAT: u64 = 1;
 
 /// What became of a line.
-#[derive(Clone, Copy, Drop)]
+#[derive(Drop)]
 pub enum Answer {
     /// Its call ran; the release of its ticket stands at this place of the log.
     Ran(usize),
