@@ -1,18 +1,16 @@
 -- what is known where no answer stands against a CreatePool
-use Rattle.std.proofs.Common.{◌≡◌, ℕ, suc, ◌+◌, ◌<◌, ◌≤◌, ◌^◌, ◌==◌, List, [], ◌∷◌, ◌++◌, length, Bool, true, false, ◌||◌, ◌&&◌, cond, Option, Some, None, is_some, is_none, option_map, unwrap_or, bytes_eq, nat_lt, nat_le, map, subst, sym, ◌∙◌, ap, refl, arith}
-use Rattle.std.specs.List.{AllByRecursion, find}
+use Rattle.std.proofs.Common.{◌≡◌, ℕ, ◌<◌, ◌≤◌, ◌^◌, ◌==◌, List, [], ◌∷◌, length, Bool, true, false, ◌||◌, cond, Option, Some, None, is_some, is_none, option_map, nat_lt, nat_le, refl, arith}
+use Rattle.std.specs.List.{AllByRecursion}
 use Rattle.std.proofs.lemmas.Grind.{common_steps}
-use Rattle.std.proofs.lemmas.Slice.Eq.{bytes_eq-Decides}
 use Rattle.st_units.specs.declared.rows.DevRow.{DevRow}
 use Rattle.st_units.specs.declared.cause.Cause.{Cause}
-use Rattle.st_units.specs.declared.cause.Cause.TheVariants.{EmptyDevices, NoSuchDevice, DeviceTooSmall, DeviceInUse, TooManyPools, TooManyDevices, DeviceFault}
+use Rattle.st_units.specs.declared.cause.Cause.TheVariants.{EmptyDevices, NoSuchDevice, DeviceTooSmall, DeviceInUse, TooManyPools, TooManyDevices}
 use Rattle.st_model.specs.declared.reply.Reply.{Reply}
 use Rattle.st_model.specs.declared.state.PoolState.{PoolState}
 use Rattle.st_model.specs.declared.state.EngineState.{EngineState}
-use Rattle.st_model.specs.Look.{Text, has_path, row_of, first_absent, distinct, uses, pool_using, first_used, is_called, holds, holder}
-use Rattle.st_model.specs.Answer.{refused, first_answer, refused_by, refused_where, unless_answered, where_unanswered}
-use Rattle.st_model.specs.steps.CreatePool.{create_answers, create_answer, create_plain, create_broken, answer_held, in_use, first_small, sectors_of, new_pool, broken_pool, is_made, with_pool}
-use Rattle.st_model.specs.Sums.{AreSmall}
+use Rattle.st_model.specs.Look.{Text, has_path, row_of, first_absent, distinct, uses, pool_using, first_used, holds}
+use Rattle.st_model.specs.Answer.{first_answer, refused_by, refused_where}
+use Rattle.st_model.specs.steps.CreatePool.{create_answers, create_answer, answer_held, in_use, first_small, sectors_of, is_made}
 use Rattle.st_model.specs.Valid.{is_there}
 use Rattle.st_model.proofs.Lists.{none_found, found_passes, All-weaker}
 
@@ -92,3 +90,9 @@ create_fresh s name paths h =
       few = grind (arith, common_steps);
       room = grind (arith, common_steps);
     }
+
+-- a pool that goes by this name alone, with the next serial, on these devices
+pub record IsNewOn (next : ℕ) (name : Text) (devices : List Text) (q : PoolState) : Type 0 where
+  pub named : (other : Text) → holds other q ≡ true → other ≡ name
+  pub serial : q.serial ≡ next
+  pub on : (path : Text) → uses path q ≡ true → has_path path devices ≡ true

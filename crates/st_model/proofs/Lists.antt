@@ -1,6 +1,6 @@
 -- look-ups in lists
-use Rattle.std.proofs.Common.{◌≡◌, ℕ, List, [], ◌∷◌, ◌++◌, Bool, true, false, ◌||◌, not, cond, filter, Option, Some, None, bytes_eq, map, ◌≢◌, subst, refl}
-use Rattle.std.specs.List.{AllByRecursion, list_any, find}
+use Rattle.std.proofs.Common.{◌≡◌, List, [], ◌∷◌, ◌++◌, Bool, true, false, ◌||◌, not, cond, filter, Option, Some, None, bytes_eq, map, ◌≢◌, subst, refl}
+use Rattle.std.specs.List.{AllByRecursion, find}
 use Rattle.std.proofs.lemmas.Slice.Eq.{bytes_eq-Decides}
 use Rattle.st_model.specs.Look.{Text, has_path, without, distinct}
 use Rattle.st_model.specs.ValidPool.{EachPair}

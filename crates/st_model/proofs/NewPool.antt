@@ -1,13 +1,13 @@
 -- a pool just made is whole, and one whose making failed is blank
-use Rattle.std.proofs.Common.{◌≡◌, ◌≢◌, ℕ, suc, ◌+◌, ◌-◌, ◌*◌, ◌/◌, ◌<◌, ◌≤◌, ◌^◌, ◌==◌, List, [], ◌∷◌, length, Bool, true, false, not, filter, cond, Option, Some, None, is_some, is_none, option_map, unwrap_or, bytes_eq, ap, refl, arith}
+use Rattle.std.proofs.Common.{◌≡◌, ◌≢◌, ℕ, suc, ◌-◌, ◌≤◌, ◌^◌, ◌==◌, List, [], ◌∷◌, length, Bool, true, false, filter, cond, Option, Some, None, is_some, option_map, unwrap_or, bytes_eq, ap, refl, arith}
 use Rattle.std.specs.List.{AllByRecursion}
 use Rattle.std.proofs.lemmas.Nat.{le-div}
 use Rattle.st_units.specs.declared.rows.DevRow.{DevRow}
 use Rattle.st_units.specs.declared.rows.Tier.TheVariants.{DataTier}
 use Rattle.st_model.specs.declared.state.EngineState.{EngineState}
 use Rattle.st_model.specs.Look.{Text, row_of, distinct}
-use Rattle.st_model.specs.Sums.{AreSmall, usable_blocks, blocks_of, cache_rows, room}
-use Rattle.st_model.specs.ValidPool.{EachPair, StartsWithData, AreDevices, IsWhole, IsBegun}
+use Rattle.st_model.specs.Sums.{AreSmall, usable_blocks, blocks_of, cache_rows}
+use Rattle.st_model.specs.ValidPool.{StartsWithData, AreDevices, IsWhole, IsBegun}
 use Rattle.st_model.specs.Valid.{AreRackRows, is_there, IsRow}
 use Rattle.st_model.specs.steps.CreatePool.{is_data, data_rows, sectors_of, new_pool, broken_pool}
 use Rattle.st_model.proofs.Fresh.{IsFresh}

@@ -1,21 +1,20 @@
 -- a pool that is created has a name, a serial and devices of its own
-use Rattle.std.proofs.Common.{◌≡◌, ℕ, suc, ◌+◌, ◌<◌, ◌≤◌, ◌^◌, List, [], ◌∷◌, ◌++◌, length, Bool, true, false, ◌||◌, ◌&&◌, cond, Option, Some, None, is_some, option_map, unwrap_or, bytes_eq, nat_lt, nat_le, map, subst, sym, ◌∙◌, ap, refl, length-append, arith}
-use Rattle.std.specs.List.{AllByRecursion, find}
-use Rattle.std.proofs.lemmas.Grind.{common_steps}
+use Rattle.std.proofs.Common.{◌≡◌, ℕ, ◌+◌, ◌<◌, List, [], ◌∷◌, Bool, true, false, ◌||◌, cond, Option, Some, None, is_some, unwrap_or, bytes_eq, subst, sym, ◌∙◌, refl, length-append, arith}
+use Rattle.std.specs.List.{AllByRecursion}
 use Rattle.std.proofs.lemmas.Slice.Eq.{bytes_eq-Decides}
 use Rattle.st_units.specs.declared.rows.DevRow.{DevRow}
-use Rattle.st_units.specs.declared.cause.Cause.{Cause}
-use Rattle.st_units.specs.declared.cause.Cause.TheVariants.{DeviceInUse, TooManyPools, TooManyDevices, DeviceFault}
+use Rattle.st_units.specs.declared.cause.Cause.TheVariants.{DeviceFault}
 use Rattle.st_model.specs.declared.reply.Reply.{Reply}
 use Rattle.st_model.specs.declared.state.PoolState.{PoolState}
 use Rattle.st_model.specs.declared.state.EngineState.{EngineState}
-use Rattle.st_model.specs.Look.{Text, has_path, row_of, distinct, uses, pool_using, first_used, is_called, holds, holder}
-use Rattle.st_model.specs.Answer.{refused, first_answer, refused_by, refused_where, unless_answered, where_unanswered}
-use Rattle.st_model.specs.steps.CreatePool.{create_answers, create_answer, create_plain, create_broken, answer_held, in_use, data_rows, sectors_of, new_pool, broken_pool, is_made, with_pool}
+use Rattle.st_model.specs.Look.{Text, flight_of, has_path, row_of, distinct, uses, holds}
+use Rattle.st_model.specs.Answer.{refused, unless_answered, where_unanswered}
+use Rattle.st_model.specs.steps.CreatePool.{create_answer, create_plain, create_broken, data_rows, new_pool, broken_pool, with_pool}
 use Rattle.st_model.specs.Sums.{AreSmall}
 use Rattle.st_model.specs.ValidPool.{IsValidIn, IsValidPool}
-use Rattle.st_model.specs.Valid.{Apart, AreRackRows, AreThere, is_there, IsValid}
-use Rattle.st_model.proofs.Fresh.{FreeOf, IsFresh, create_fresh}
+use Rattle.st_model.specs.Valid.{Apart, AreRackRows, AreThere, IsFlight, is_there, IsValid}
+use Rattle.st_model.proofs.Fresh.{FreeOf, IsFresh, IsNewOn, create_fresh}
+use Rattle.st_model.proofs.KeptFlights.{flights-keep, own-flight}
 use Rattle.st_model.proofs.Lists.{All-end, All-weaker, EachPair-end, at_path, All-distinct}
 use Rattle.st_model.proofs.NewPool.{new-there, new-small, new-whole, broken-begun}
 
@@ -33,12 +32,6 @@ or_false false = refl
 
 not_both : (b : Bool) → b ≡ false → b ≡ true → ⊥
 not_both b f t = absurd cc
-
--- a pool that goes by this name alone, with the next serial, on these devices
-pub record IsNewOn (next : ℕ) (name : Text) (devices : List Text) (q : PoolState) : Type 0 where
-  pub named : (other : Text) → holds other q ≡ true → other ≡ name
-  pub serial : q.serial ≡ next
-  pub on : (path : Text) → uses path q ≡ true → has_path path devices ≡ true
 
 new_is_new : (next : ℕ) (name : Text) (rows : List DevRow) (devices : List Text) → IsNewOn next name devices (new_pool next name (data_rows rows devices))
 new_is_new next name rows devices = record {
@@ -78,6 +71,7 @@ record MayJoin (s : EngineState) (name : Text) (devices : List Text) (q : PoolSt
   small : AreSmall q.devices
   state : IsValidIn q q.mode
   there : AreThere s.devices q q.mode
+  flight : IsFlight (with_pool s q) q (flight_of q.mode)
 
 -- a state with a valid new pool is valid
 with_new : (s : EngineState) (name : Text) (paths : List Text) (q : PoolState) → IsValid s → IsFresh s name paths → MayJoin s name (distinct paths) q → IsValid (with_pool s q)
@@ -91,6 +85,7 @@ with_new s name paths q valid fresh joins =
       count = rw (length-append s.pools (q ∷ [])) (omega (arith, fresh.count));
       pools = All-end (IsValidPool (s.next + 1)) s.pools _ (All-weaker _ _ s.pools (later s.next) valid.pools) (record { serial = omega (arith, new.serial); from_one = omega (arith, new.serial, valid.from_one); devices = joins.small; state = joins.state });
       there = All-end (λ (p : PoolState). AreThere s.devices p p.mode) s.pools q valid.there joins.there;
+      flights = All-end (λ (p : PoolState). IsFlight (with_pool s q) p (flight_of p.mode)) s.pools q (flights-keep s name paths q valid.pools fresh new valid.flights) joins.flight;
       apart = EachPair-end (Apart s.devices) s.pools _ valid.apart (all_apart s.devices s.next name (distinct paths) q s.pools new valid.pools fresh.names free);
     }
 
@@ -100,14 +95,16 @@ new_joins s name paths rack fresh = record {
   small = new-small s name paths rack fresh;
   state = new-whole s name paths rack fresh;
   there = new-there s name paths fresh;
+  flight = tt;
 }
 
-broken_joins : (s : EngineState) (name : Text) (paths : List Text) → IsFresh s name paths → MayJoin s name (distinct paths) (broken_pool s.next name (distinct paths))
-broken_joins s name paths fresh = record {
+broken_joins : (s : EngineState) (name : Text) (paths : List Text) → AllByRecursion (IsValidPool s.next) s.pools → IsFresh s name paths → MayJoin s name (distinct paths) (broken_pool s.next name (distinct paths))
+broken_joins s name paths pools fresh = record {
   new = broken_is_new s.next name (distinct paths);
   small = record { few = omega arith; small = tt };
   state = broken-begun s.next name paths;
   there = (tt, All-distinct (λ path. is_there s.devices path ≡ true) paths fresh.there);
+  flight = own-flight s name paths pools fresh;
 }
 
 plain_keeps : (s : EngineState) (name : Text) (paths : List Text) (answer : Option Reply) (reply : Reply) → (answer ≡ None → IsFresh s name paths) → IsValid s
@@ -125,4 +122,4 @@ create_broken-IsValid s name paths reply valid = cases (create_answer s name pat
   where
     cases : (answer : Option Reply) → (answer ≡ None → IsFresh s name paths) → IsValid (unwrap_or {T = Reply × EngineState} (where_unanswered answer (refused DeviceFault, with_pool s (broken_pool s.next name (distinct paths)))) (reply, s)).1
     cases (Some r) f = valid
-    cases None f = with_new s name paths _ valid (f refl) (broken_joins s name paths (f refl))
+    cases None f = with_new s name paths _ valid (f refl) (broken_joins s name paths valid.pools (f refl))

@@ -1,5 +1,5 @@
 -- which states of a pool are valid
-use Rattle.std.specs.Prelude.{ℕ, ◌≡◌, ◌≢◌, ◌+◌, ◌*◌, ◌/◌, ◌%◌, ◌^◌, ◌<◌, ◌≤◌, ◌==◌, List, [], ◌∷◌, length, Bool, true, false, Option, Some, None, bytes_eq}
+use Rattle.std.specs.Prelude.{ℕ, ◌≡◌, ◌≢◌, ◌*◌, ◌/◌, ◌%◌, ◌^◌, ◌<◌, ◌≤◌, ◌==◌, List, [], ◌∷◌, length, Bool, true, false, Option, Some, None, bytes_eq}
 use Rattle.std.specs.List.{AllByRecursion, list_any}
 use Rattle.st_units.specs.declared.rows.DevRow.{DevRow}
 use Rattle.st_model.specs.declared.call.Call.{Call}
@@ -133,7 +133,7 @@ pub record IsWhole (p : PoolState) : Type 0 where
   pub limit : p.filesystem_limit ≤ 128
   pub cache : IsCacheOf p p.cache
 
--- a pool that doesn't run: its cache is cold
+-- a pool that isn't up: its cache is cold
 pub record IsHalted (p : PoolState) : Type 0 where
   pub whole : IsWhole p
   pub cold : IsColdIfAny p.cache
