@@ -92,14 +92,25 @@ fresh-unanswered s name paths fresh =
     let unused : first_used devices s.pools ≡ None = find_none _ devices (All-weaker _ _ devices (no_user s.pools) (All-distinct (FreeOf s.pools) paths fresh.paths_free)) in
     let large : first_small devices s.devices ≡ None = find_none _ devices (All-weaker _ _ devices (λ path. no_less (sectors_of path s.devices)) (All-distinct (λ path. 8192 ≤ sectors_of path s.devices) paths fresh.large)) in
     let fewer = distinct_shorter devices in
-    none_first (create_answers s name devices)
-      (ap (λ b. refused_where b EmptyDevices) (some_distinct paths fresh.some),
-       (ap (λ o. refused_by (option_map NoSuchDevice o)) absent,
-        (ap (answer_held name devices) unheld,
-         (ap (λ o. refused_by (in_use s.pools o)) unused,
-          (ap (λ o. refused_by (option_map DeviceTooSmall o)) large,
-           (ap (λ b. refused_where b TooManyDevices) (not_many (length (distinct devices)) (omega (arith, fewer, fresh.few))),
-            (ap (λ b. refused_where b TooManyPools) (not_full (length s.pools) s.next fresh.count fresh.room), tt)))))))
+    none_first (create_answers s name devices) (
+      ap (λ b. refused_where b EmptyDevices) (some_distinct paths fresh.some),
+      (
+        ap (λ o. refused_by (option_map NoSuchDevice o)) absent,
+        (
+          ap (answer_held name devices) unheld,
+          (
+            ap (λ o. refused_by (in_use s.pools o)) unused,
+            (
+              ap (λ o. refused_by (option_map DeviceTooSmall o)) large,
+              (
+                ap (λ b. refused_where b TooManyDevices) (not_many (length (distinct devices)) (omega (arith, fewer, fresh.few))),
+                (ap (λ b. refused_where b TooManyPools) (not_full (length s.pools) s.next fresh.count fresh.room), tt),
+              ),
+            ),
+          ),
+        ),
+      ),
+    )
 
 pub unanswered-accepted : (s : EngineState) (name : Text) (paths : List Text) → create_answer s name paths ≡ None → (create_plain s name paths).0.code ≡ 0
 unfolding create_plain
@@ -135,18 +146,18 @@ same-answer t q name paths other free few =
     let held : holder name pools ≡ holder name t.pools = find_but_last (holds name) t.pools q other in
     let first : first_used paths pools ≡ first_used paths t.pools = find_same _ _ paths (All-weaker _ _ paths (λ path h. ap is_some (find_but_last (uses path) t.pools q h)) free) in
     let used : in_use pools (first_used paths pools) ≡ in_use t.pools (first_used paths t.pools) =
-      ap (in_use pools) first ∙ same_use t q paths (first_used paths t.pools) (λ path e. found-holds (λ x. uses x q ≡ false) _ paths path free e) in
+    ap (in_use pools) first ∙ same_use t q paths (first_used paths t.pools) (λ path e. found-holds (λ x. uses x q ≡ false) _ paths path free e) in
     let more : length pools ≡ length t.pools + 1 = length-append t.pools (q ∷ []) in
     let full = not_full_too (length t.pools) (length pools) t.next more (omega (arith, more, few)) in
     same_first
-      (refused_where (length paths == 0) EmptyDevices)
-      (refused_by (option_map NoSuchDevice (first_absent paths t.devices)))
-      (refused_by (option_map DeviceTooSmall (first_small paths t.devices)))
-      (refused_where (nat_lt 16 (length (distinct paths))) TooManyDevices)
-      _ _ _ _ _ _
-      (ap (answer_held name paths) held)
-      (ap refused_by used)
-      (ap (λ b. refused_where b TooManyPools) full)
+    (refused_where (length paths == 0) EmptyDevices)
+    (refused_by (option_map NoSuchDevice (first_absent paths t.devices)))
+    (refused_by (option_map DeviceTooSmall (first_small paths t.devices)))
+    (refused_where (nat_lt 16 (length (distinct paths))) TooManyDevices)
+    _ _ _ _ _ _
+    (ap (answer_held name paths) held)
+    (ap refused_by used)
+    (ap (λ b. refused_where b TooManyPools) full)
 
 pub same-accepted : (s t : EngineState) (name : Text) (paths : List Text) → create_answer t name paths ≡ create_answer s name paths → (create_plain s name paths).0.code ≡ 0 → (create_plain t name paths).0.code ≡ 0
 unfolding create_plain

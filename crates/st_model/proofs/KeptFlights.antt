@@ -85,16 +85,16 @@ making_keeps s name paths p q b n ds e named h =
     let t = state_before s p (CreatePool n ds) in
     let above : p.serial < q.serial = omega (arith, b.serial, b.new.serial) in
     let kept : all_but p.serial (s.pools ++ q ∷ []) ≡ all_but p.serial s.pools ++ q ∷ [] =
-      filter-append (λ (x : PoolState). not (x.serial == p.serial)) s.pools (q ∷ [])
-      ∙ ap (λ r. all_but p.serial s.pools ++ r) (filter_keeps (λ (x : PoolState). not (x.serial == p.serial)) q (differs_too p.serial q.serial above)) in
+    filter-append (λ (x : PoolState). not (x.serial == p.serial)) s.pools (q ∷ [])
+    ∙ ap (λ r. all_but p.serial s.pools ++ r) (filter_keeps (λ (x : PoolState). not (x.serial == p.serial)) q (differs_too p.serial q.serial above)) in
     let same : state_before (with_pool s q) p (CreatePool n ds) ≡ one_more t q = ap (λ ps. record { pools = ps; devices = s.devices; next = p.serial }) kept in
     let own : holds n p ≡ true = or_left (bytes_eq p.name n) _ ((bytes_eq-Decides p.name n).1 named) in
     let unheld : holds n q ≡ false = not_true (holds n q) (λ held. not_both (holds name p) b.other (subst (λ x. holds x p ≡ true) (b.new.named n held) own)) in
     let unused : AllByRecursion (λ path. uses path q ≡ false) ds =
-      All-weaker _ _ ds
-        (λ path among. not_true (uses path q)
-          (λ used. not_both (uses path p) (at_path (λ x. uses x p ≡ false) path (distinct paths) b.free (b.new.on path used)) (or_right _ _ (ap (takes_path path) e ∙ among))))
-        (All-self bytes_eq (λ x. (bytes_eq-Decides x x).1 refl) ds) in
+    All-weaker _ _ ds
+    (λ path among. not_true (uses path q)
+    (λ used. not_both (uses path p) (at_path (λ x. uses x p ≡ false) path (distinct paths) b.free (b.new.on path used)) (or_right _ _ (ap (takes_path path) e ∙ among))))
+    (All-self bytes_eq (λ x. (bytes_eq-Decides x x).1 refl) ds) in
     let less : length (all_but p.serial s.pools) < length s.pools = filter_less (λ (x : PoolState). x.serial == p.serial) s.pools b.known in
     subst (λ u. (create_plain u n ds).0.code ≡ 0) (sym same) (same-accepted t (one_more t q) n ds (same-answer t q n ds unheld unused (omega (arith, less, b.count))) h)
 
@@ -117,15 +117,16 @@ each_keeps : (s : EngineState) (name : Text) (paths : List Text) (q : PoolState)
     → AllByRecursion (λ (p : PoolState). IsFlight s p (flight_of p.mode)) ps → AllByRecursion (λ (p : PoolState). IsFlight (with_pool s q) p (flight_of p.mode)) ps
 each_keeps s name paths q [] new count valid other free known flights = tt
 each_keeps s name paths q (p ∷ ps) new count valid other free known flights =
-    let beside : Beside s name paths p q = record { new = new; count = count; serial = valid.0.serial; other = other.0; free = All-weaker _ _ (distinct paths) (λ x h. h.0) free; known = known.0 } in
-    (flight_keeps s name paths p q beside p.mode refl valid.0.state flights.0,
-     each_keeps s name paths q ps new count valid.1 other.1 (All-weaker _ _ (distinct paths) (λ x h. h.1) free) known.1 flights.1)
+    let beside : Beside s name paths p q = record { new = new; count = count; serial = valid.0.serial; other = other.0; free = All-weaker _ _ (distinct paths) (λ x h. h.0) free; known = known.0 } in (
+      flight_keeps s name paths p q beside p.mode refl valid.0.state flights.0,
+      each_keeps s name paths q ps new count valid.1 other.1 (All-weaker _ _ (distinct paths) (λ x h. h.1) free) known.1 flights.1,
+    )
 
 pub flights-keep : (s : EngineState) (name : Text) (paths : List Text) (q : PoolState) → AllByRecursion (IsValidPool s.next) s.pools → IsFresh s name paths → IsNewOn s.next name (distinct paths) q
     → AllByRecursion (λ (p : PoolState). IsFlight s p (flight_of p.mode)) s.pools → AllByRecursion (λ (p : PoolState). IsFlight (with_pool s q) p (flight_of p.mode)) s.pools
 flights-keep s name paths q valid fresh new flights =
     each_keeps s name paths q s.pools new fresh.count valid fresh.names (All-distinct (FreeOf s.pools) paths fresh.paths_free)
-      (All-self (λ (x y : PoolState). x.serial == y.serial) (λ x. same_number x.serial) s.pools) flights
+    (All-self (λ (x y : PoolState). x.serial == y.serial) (λ x. same_number x.serial) s.pools) flights
 
 not_not : (b : Bool) → b ≡ true → not b ≡ false
 not_not true h = refl
@@ -140,6 +141,6 @@ own-flight s name paths valid fresh =
     let before : filter is_other s.pools ≡ s.pools = filter_all is_other s.pools (All-weaker (IsValidPool s.next) (λ p. is_other p ≡ true) s.pools (λ p h. differs p.serial s.next h.serial) valid) in
     let last : filter is_other (q ∷ []) ≡ [] = filter_drops is_other q (not_not (s.next == s.next) (same_number s.next)) in
     let kept : all_but s.next (s.pools ++ q ∷ []) ≡ s.pools =
-      filter-append is_other s.pools (q ∷ []) ∙ ap (λ r. filter is_other s.pools ++ r) last ∙ append-nil (filter is_other s.pools) ∙ before in
+    filter-append is_other s.pools (q ∷ []) ∙ ap (λ r. filter is_other s.pools ++ r) last ∙ append-nil (filter is_other s.pools) ∙ before in
     let same : state_before (with_pool s q) q (CreatePool name (distinct paths)) ≡ s = ap (λ ps. record { pools = ps; devices = s.devices; next = s.next }) kept in
     subst (λ u. (create_plain u name (distinct paths)).0.code ≡ 0) (sym same) (unanswered-accepted s name (distinct paths) (fresh-unanswered s name paths fresh))

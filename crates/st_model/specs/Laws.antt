@@ -1,4 +1,5 @@
 -- laws of step
+use Rattle.std.specs.Prelude.{ℕ}
 use Rattle.st_model.specs.declared.call.Call.{Call}
 use Rattle.st_model.specs.declared.entry.Env.{Env}
 use Rattle.st_model.specs.declared.state.EngineState.{EngineState}
