@@ -1,5 +1,9 @@
-//! Tests over all of the crates below.
+//! The tests of the layers, by topic: worked rows, real threads, and each call once with ample memory.
 #![tactic(auto)]
 
 #[cfg(test)]
+mod grants;
+#[cfg(test)]
 mod lines;
+#[cfg(test)]
+mod turn;

@@ -13,7 +13,7 @@ use Rattle.st_model.specs.declared.entry.Entry.{Entry}
 use Rattle.st_model.specs.declared.entry.Event.{Event}
 use Rattle.st_model.specs.declared.entry.Event.TheVariants.{Arrive, Grant, Release}
 use Rattle.st_model.specs.declared.state.EngineState.{EngineState}
-use Rattle.st_model.specs.History.{move_of, moves_of, state_past, replay, AreSteps, AreOneCall, IsOf, IsDue, HistoryFrom}
+use Rattle.st_model.specs.History.{move_of, moves_of, state_past, replay, AreSteps, AreOneCall, IsOf, IsDue, HistoryFrom, idle}
 use Rattle.st_model.specs.Step.{step}
 use Rattle.st_model.specs.Wanted.{want_of}
 
@@ -28,10 +28,6 @@ lock_run-append l (e ∷ log) more = lock_run-append (lock_after l (move_of e)) 
 pub replay-append : (s : EngineState) (log more : List Event) → replay s (log ++ more) ≡ replay (replay s log) more
 replay-append s [] more = refl
 replay-append s (e ∷ log) more = replay-append (state_past s e) log more
-
--- the lock with no ticket out
-abbrev pub idle : ℕ → Lock
-idle next = record { next = next; rows = [] }
 
 -- the lock with one row
 abbrev pub alone : ℕ → LockRow → Lock

@@ -25,6 +25,10 @@ use Rattle.st_model.specs.Step.{IsLicensed, step}
 use Rattle.st_model.specs.Sums.{room}
 use Rattle.st_model.specs.Wanted.{want_of}
 
+-- the lock with no ticket out
+abbrev pub idle : ℕ → Lock
+idle next = record { next = next; rows = [] }
+
 -- what an event does to the lock
 abbrev pub move_of : Event → Move
 move_of (Arrive seat ticket want) = rule.Arrive seat ticket want

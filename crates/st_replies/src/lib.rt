@@ -6,5 +6,5 @@ mod result;
 mod text;
 mod value;
 
-pub use line::{Summary, not_built_line, reply_line, summary_line};
+pub use line::{Summary, json_line, not_built_line, reply_line, summary_line};
 pub use value::reply_value;

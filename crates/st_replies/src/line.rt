@@ -26,7 +26,8 @@ pub struct Summary {
     pub read: u64,
 }
 
-fn json_line(alloc: Global, value: &Value) -> Result<Bytes, NoMemory>
+/// A value without a float as a line: compact JSON and LF.
+pub fn json_line(alloc: Global, value: &Value) -> Result<Bytes, NoMemory>
     requires { has_float (view value.now) ≡ false }
     ensures { IfOk result (λ line. line ≡ json_line (view value.now)) }
 {

@@ -9,4 +9,4 @@ mod values;
 
 pub use identity::uuid_text;
 pub use report::{is_report, report_value};
-pub use values::path_texts;
+pub use values::{count_or_null, path_texts};

@@ -20,7 +20,7 @@ pub fn path_texts(alloc: Global, paths: &[DevPath]) -> Result<Value, NoMemory>
 
 /// The number, or null where there is none.
 #[tactic(auto, unfolding(crate::specs::Values::count_or_null))]
-pub(crate) fn count_or_null(count: Option<u64>) -> Value
+pub fn count_or_null(count: Option<u64>) -> Value
     ensures { view result ≡ count_or_null count }
 {
     match count {

@@ -12,25 +12,8 @@ use Rattle.st_model.specs.declared.entry.Origin.TheVariants.{Line}
 use Rattle.st_calls.proofs.Given.{form-IsCall}
 use Rattle.st_session.specs.Entries.{entries_of, count_from, StandsAt}
 use Rattle.st_session.specs.LaneOrder.{IsLineCall, IsOfLine, LaneOrder}
+use Rattle.st_session.specs.Going.{IsKnown, IsLaned}
 use Rattle.st_session.proofs.Logs.{call_events, entries_of-call, count_from-call, IsNew, stands_more, arrives_more}
-
--- an entry of a line up to i, by seat 1 and with a ticket below k
-pub record IsKnown (lines : List (List ℕ)) (i k seat ticket : ℕ) (e : Entry) : Type 0 where
-  pub n : ℕ
-  pub from : e.from ≡ Line n
-  pub low : n ≤ i
-  pub seat_is : seat ≡ 1
-  pub below : ticket < k
-  pub lane : ℕ
-  pub call : IsLineCall 1 lines n lane e.call
-
--- what holds of the log after i lines, of which k were run
-pub record IsLaned (lines : List (List ℕ)) (i k : ℕ) (log : List Event) : Type 0 where
-  pub known : (place seat ticket : ℕ) (e : Entry) → StandsAt log place seat ticket e → IsKnown lines i k seat ticket e
-  pub arrivals : (place seat ticket : ℕ) (want : Want) → slice_get log place ≡ Some (Arrive seat ticket want) → ticket < k
-  pub later : (m : ℕ) → i < m → count_from m (entries_of log) ≡ 0
-  pub once : (m : ℕ) → count_from m (entries_of log) ≤ 1
-  pub order : (a b p s u t v m n c d : ℕ) (e f : Entry) (want : Want) → IsOfLine 1 lines log a s t m c e → IsOfLine 1 lines log b u v n d f → m < n → slice_get log p ≡ Some (Arrive u v want) → a < p
 
 pub laned_start : (lines : List (List ℕ)) → IsLaned lines 0 0 []
 laned_start lines = record {

@@ -1,5 +1,5 @@
 -- what stands at a place of two lists joined
-use Rattle.std.proofs.Common.{◌≡◌, ℕ, zero, suc, ◌+◌, ◌<◌, ◌⊎◌, inl, inr, List, [], ◌∷◌, ◌++◌, length, Option, Some, None, Bool, true, false, cond, refl, sym, ap, ◌∙◌, subst, arith}
+use Rattle.std.proofs.Common.{◌≡◌, ℕ, zero, suc, ◌+◌, ◌<◌, ◌⊎◌, inl, inr, List, [], ◌∷◌, ◌++◌, length, drop, Option, Some, None, Bool, true, false, cond, refl, sym, ap, ◌∙◌, subst, arith}
 use Rattle.std.specs.Prelude.{slice_get, find}
 
 module _ {X : Type 0} where
@@ -22,6 +22,11 @@ module _ {X : Type 0} where
   at_back [] ys i j e = let same : i ≡ j = omega (arith, e) in ap (slice_get ys) same
   at_back (y ∷ xs) ys zero j e = let no_place : zero ≡ suc (length xs) + j = e in absurd (omega (arith, no_place))
   at_back (y ∷ xs) ys (suc i) j e = at_back xs ys i j (omega (arith, e))
+
+  pub drop_at : (xs : List X) (i : ℕ) (x : X) → slice_get xs i ≡ Some x → drop i xs ≡ x ∷ drop (suc i) xs
+  drop_at [] i x h = absurd cc
+  drop_at (y ∷ xs) zero x h = let same : y ≡ x = cc in ap (λ z. z ∷ xs) same
+  drop_at (y ∷ xs) (suc i) x h = drop_at xs i x h
 
   pub found_first : (p : X → Bool) (xs ys : List X) (x : X) → find p xs ≡ Some x → find p (xs ++ ys) ≡ Some x
   found_first p [] ys x h = absurd cc

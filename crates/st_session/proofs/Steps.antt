@@ -13,12 +13,12 @@ use Rattle.st_model.specs.declared.entry.Event.TheVariants.{Release}
 use Rattle.st_model.specs.declared.entry.Origin.{Origin}
 use Rattle.st_model.specs.declared.entry.Origin.TheVariants.{Line}
 use Rattle.st_model.specs.declared.state.EngineState.{EngineState}
-use Rattle.st_model.specs.History.{moves_of, replay, AreSteps, AreOneCall, IsNotPrepare, IsShort, HistoryFrom, History}
+use Rattle.st_model.specs.History.{moves_of, replay, AreSteps, AreOneCall, IsNotPrepare, IsShort, HistoryFrom, History, idle}
 use Rattle.st_model.specs.Step.{step, is_built}
 use Rattle.st_model.specs.Valid.{IsValid}
 use Rattle.st_model.specs.Wanted.{want_of}
 use Rattle.st_model.proofs.Built.{built-not_short}
-use Rattle.st_model.proofs.Histories.{history-append, lock_run-append, replay-append, idle, one_call, one_call-idle, one_call-state}
+use Rattle.st_model.proofs.Histories.{history-append, lock_run-append, replay-append, one_call, one_call-idle, one_call-state}
 use Rattle.st_model.proofs.Validity.{step-IsValid}
 use Rattle.st_calls.specs.declared.fault.LineFault.{LineFault}
 use Rattle.st_calls.specs.Form.{form}
@@ -29,7 +29,8 @@ use Rattle.st_session.specs.declared.session.Session.{Session}
 use Rattle.st_session.specs.Entries.{entries_of, is_from, entry_of, count_from}
 use Rattle.st_session.specs.LaneOrder.{IsLineCall}
 use Rattle.st_session.specs.Running.{IsEntryOf, events_of, RanCall, Stayed, Answered, IsAnswer, AreAnswers}
-use Rattle.st_session.proofs.Laned.{IsLaned, laned_skip, laned_call}
+use Rattle.st_session.specs.Going.{IsGoing, IsLaned}
+use Rattle.st_session.proofs.Laned.{laned_skip, laned_call, laned_start}
 use Rattle.st_session.proofs.Logs.{call_events, entries_of-call, none_from, is_from-line}
 use Rattle.st_session.proofs.Places.{at_append, at_front, at_back, found_first, found_later}
 
@@ -46,14 +47,16 @@ ran_after n call old mid new place stayed ran = record {
   released = ran.released ∙ ap (λ (log : List Event). length log + 2) stayed.log;
 }
 
--- what holds after i lines
-pub record IsGoing (lines : List (List ℕ)) (s0 : EngineState) (i : ℕ) (session : Session) : Type 0 where
-  pub history : History s0 session.log.items
-  pub lock : lock_run start (moves_of session.log.items) ≡ idle session.tickets
-  pub state : replay s0 session.log.items ≡ session.state
-  pub valid : IsValid session.state
-  pub few : session.tickets ≤ i
-  pub laned : IsLaned lines i session.tickets session.log.items
+-- before the first line
+pub going_start : (lines : List (List ℕ)) (session : Session) → session.log.items ≡ [] → session.tickets ≡ 0 → IsValid session.state → IsGoing lines session.state 0 session
+going_start lines session log tickets valid = record {
+  history = rw log tt;
+  lock = rw (log, tickets) refl;
+  state = rw log refl;
+  valid = valid;
+  few = omega (arith, tickets);
+  laned = rw (log, tickets) (laned_start lines);
+}
 
 going_skip : (lines : List (List ℕ)) (s0 : EngineState) (i : ℕ) (old new : Session) → IsGoing lines s0 i old → Stayed old new → IsGoing lines s0 (i + 1) new
 going_skip lines s0 i old new h stayed = record {

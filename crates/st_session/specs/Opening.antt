@@ -6,9 +6,12 @@ use Rattle.st_rack.specs.Calls.{Devices, sectors_of}
 use Rattle.st_rack.specs.Device.{Path}
 use Rattle.st_model.specs.declared.state.EngineState.{EngineState}
 
--- each device of the rack, with the sectors that the rack gives it
+-- a device, with the sectors that the rack gives it
+abbrev pub row_of : Devices → Path × ℕ → DevRow
+row_of devs d = record { path = d.0; tier = DataTier; sectors = unwrap_or (sectors_of devs d.0) 0 }
+
 abbrev pub rows_of : Devices → Devices → List DevRow
-rows_of devs ds = map (λ (d : Path × ℕ). record { path = d.0; tier = DataTier; sectors = unwrap_or (sectors_of devs d.0) 0 }) ds
+rows_of devs ds = map (row_of devs) ds
 
 -- no pool, the rack's devices, and the first serial
 abbrev pub opening : Devices → EngineState

@@ -1,0 +1,40 @@
+-- printing, piece by piece
+use Rattle.std.proofs.Common.{◌≡◌, ℕ, ◌+◌, ◌≤◌, List, [], ◌∷◌, ◌++◌, length, take, drop, Bool, true, false, cond, Option, Some, None, Result, Ok, Err, refl, sym, ap, ◌∙◌, subst, arith, append-nil, append_assoc, take-append-drop}
+use Rattle.std.specs.Prelude.{OnOk, OnErr}
+use Rattle.std.specs.Io.KnownBytes.{Appends}
+use Rattle.st_lines.proofs.Known.{Appends-start, Appends-more}
+use Rattle.st_session.specs.Printing.{Printing, Started, Prints, Stops}
+
+pub printing_start : (held : Option (List ℕ)) (whole : List ℕ) → Printing held held [] whole whole
+printing_start held whole = record { written = []; took = Appends-start held; makes = refl }
+
+-- what is printed so far is a prefix
+pub printing-Started : (before now : Option (List ℕ)) (waiting rest whole : List ℕ) → Printing before now waiting rest whole → Started before now whole
+printing-Started before now waiting rest whole h = record { written = h.written; rest = waiting ++ rest; took = h.took; makes = h.makes }
+
+-- one piece more, of which some was sent and some waits
+pub printing_more : (before old new : Option (List ℕ)) (waiting left text rest whole sent : List ℕ) → Printing before old waiting (text ++ rest) whole → Appends old new sent → waiting ++ text ≡ sent ++ left → Printing before new left rest whole
+printing_more before old new waiting left text rest whole sent h took e = record {
+  written = h.written ++ sent;
+  took = Appends-more before old new h.written sent h.took took;
+  makes = append_assoc h.written sent (left ++ rest)
+    ∙ ap (λ t. h.written ++ t) (sym (append_assoc sent left rest) ∙ ap (λ t. t ++ rest) (sym e) ∙ append_assoc waiting text rest)
+    ∙ h.makes;
+}
+
+-- a piece that was cut off
+pub printing_cut : (before old new : Option (List ℕ)) (waiting text rest whole : List ℕ) (n : ℕ) → Printing before old waiting (text ++ rest) whole → Appends old new (take n (waiting ++ text)) → Started before new whole
+printing_cut before old new waiting text rest whole n h took = record {
+  written = h.written ++ take n (waiting ++ text);
+  rest = drop n (waiting ++ text) ++ rest;
+  took = Appends-more before old new h.written _ h.took took;
+  makes = append_assoc h.written (take n (waiting ++ text)) (drop n (waiting ++ text) ++ rest)
+    ∙ ap (λ t. h.written ++ t) (sym (append_assoc (take n (waiting ++ text)) (drop n (waiting ++ text)) rest) ∙ ap (λ t. t ++ rest) (take-append-drop n (waiting ++ text)) ∙ append_assoc waiting text rest)
+    ∙ h.makes;
+}
+
+-- all that waits is the rest, and it was sent
+pub printing_end : (before old new : Option (List ℕ)) (waiting whole : List ℕ) → Printing before old waiting [] whole → Appends old new waiting → Appends before new whole
+printing_end before old new waiting whole h took =
+    let makes : h.written ++ waiting ≡ whole = ap (λ t. h.written ++ t) (sym (append-nil waiting)) ∙ h.makes in
+    subst (Appends before new) makes (Appends-more before old new h.written waiting h.took took)

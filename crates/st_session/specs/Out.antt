@@ -1,0 +1,62 @@
+-- what is written for the lines and the log
+use Rattle.std.specs.Prelude.{ℕ, ◌+◌, ◌-◌, ◌==◌, List, [], ◌∷◌, ◌++◌, length, Bool, true, false, Option, Some, None, Result, Ok, Err, if◌then◌else◌}
+use Rattle.st_units.specs.declared.cause.Cause.TheVariants as causes
+use Rattle.st_model.specs.declared.call.Call.{Call}
+use Rattle.st_model.specs.declared.entry.Entry.{Entry}
+use Rattle.st_model.specs.declared.entry.Event.{Event}
+use Rattle.st_model.specs.Answer.{refused}
+use Rattle.st_calls.specs.declared.fault.LineFault.{LineFault}
+use Rattle.st_calls.specs.declared.fault.LineFault.TheVariants.{BadCall, BadName, NotBuilt, OutOfMemory}
+use Rattle.st_calls.specs.Form.{form}
+use Rattle.st_calls.specs.Names.{call_text}
+use Rattle.st_replies.specs.Shown.{reply_line, summary_line, not_built_line}
+use Rattle.st_trace.specs.Traced.{trace_line}
+use Rattle.st_session.specs.Entries.{entries_of, entry_of}
+
+-- the reply to a line that is no call to run
+abbrev pub fault_line : ℕ → LineFault → List ℕ
+fault_line n (BadCall member) = reply_line n (refused (causes.BadCall member))
+fault_line n (BadName member) = reply_line n (refused (causes.BadName member))
+fault_line n (NotBuilt name) = not_built_line n (call_text name)
+fault_line n OutOfMemory = reply_line n (refused causes.OutOfMemory)
+
+-- the reply to a line without an entry: its fault's, or where it is a call, want of memory before it arrived
+abbrev pub formed_line : ℕ → Result (ℕ × Call) LineFault → List ℕ
+formed_line n (Ok read) = reply_line n (refused causes.OutOfMemory)
+formed_line n (Err fault) = fault_line n fault
+
+abbrev pub entered_line : ℕ → Entry → List ℕ
+entered_line n e = reply_line n e.reply
+
+-- the reply to line n: that of its entry, where it has one
+abbrev pub answer_line : ℕ → Result (ℕ × Call) LineFault → Option Entry → List ℕ
+answer_line n read None = formed_line n read
+answer_line n read (Some e) = entered_line n e
+
+-- the replies to the lines, the first of which has number n
+abbrev pub replies_from : ℕ → ℕ → List (List ℕ) → List Event → List ℕ
+replies_from lanes n [] log = []
+replies_from lanes n (line ∷ lines) log = answer_line n (form lanes line) (entry_of n (entries_of log)) ++ replies_from lanes (n + 1) lines log
+
+abbrev pub is_ok : Option Entry → Bool
+is_ok None = false
+is_ok (Some e) = e.reply.code == 0
+
+-- how many of them have code 0
+abbrev pub ok_from : ℕ → List (List ℕ) → List Event → ℕ
+ok_from n [] log = 0
+ok_from n (line ∷ lines) log = (if is_ok (entry_of n (entries_of log)) then 1 else 0) + ok_from (n + 1) lines log
+
+-- the events, in order
+abbrev pub trace_of : List Event → List ℕ
+trace_of [] = []
+trace_of (event ∷ log) = trace_line event ++ trace_of log
+
+-- no call that writes or reads sectors is built yet
+abbrev pub summary : ℕ → ℕ → List ℕ
+summary lines ok = summary_line (record { lines = lines; ok = ok; refused = lines - ok; written = 0; read = 0 })
+
+-- a reply line for each line, then with the trace a line for each event, then the summary
+unfoldable pub out : ℕ → Bool → List (List ℕ) → List Event → List ℕ
+out lanes trace lines log =
+    replies_from lanes 1 lines log ++ (trace_of (if trace then log else []) ++ summary (length lines) (ok_from 1 lines log))

@@ -1,0 +1,38 @@
+ghost use Rattle.std.specs.Prelude.{◌≡◌, ◌<◌, IfOk, IfSome, length, slice_get};
+ghost use Rattle.st_session.specs.Opening.{row_of, opening};
+
+use st_model::EngineState;
+use st_rack::Rack;
+use st_units::{DevRow, DevRows, ItemList, NoMemory, Tier};
+use std::alloc::Global;
+
+fn device<R: Rack>(rack: &R, i: usize) -> Result<DevRow, NoMemory>
+    requires { i < length (R.devs rack.now) }
+    ensures { IfOk result (λ row. IfSome (slice_get (R.devs rack.now) i) (λ d. row ≡ row_of (R.devs rack.now) d)) }
+{
+    let path = rack.path_of(i);
+    let sectors = match rack.sectors(path) {
+        Some(sectors) => sectors,
+        None => 0,
+    };
+    Ok(DevRow {
+        path: path.copy()?,
+        tier: Tier::DataTier,
+        sectors,
+    })
+}
+
+/// The state in which a run begins on this rack.
+pub(crate) fn opening<R: Rack>(alloc: Global, rack: &R) -> Result<EngineState, NoMemory>
+    ensures { IfOk result (λ state. state ≡ opening (R.devs rack.now)) }
+{
+    let mut devices = DevRows::make(alloc);
+    for i in 0..rack.devices() {
+        devices.push(device(rack, i)?)?;
+    }
+    Ok(EngineState {
+        pools: ItemList::make(alloc),
+        devices,
+        next: 1,
+    })
+}

@@ -1,0 +1,217 @@
+ghost use Rattle.std.specs.Prelude.{ℕ, ◌≡◌, ◌+◌, ◌-◌, ◌≤◌, ◌^◌, ◌<◌, IfOk, OnOk, OnErr, length, if◌then◌else◌};
+ghost use Rattle.std.specs.Io.KnownBytes.{Appends};
+ghost use Rattle.st_lines.specs.Causes.{Rose};
+ghost use Rattle.st_session.specs.Out.{fault_line, trace_of, summary};
+ghost use Rattle.st_session.specs.Printing.{Prints, Stops, Started, Replies, whole, IsShown, AreShown, shown_line, shown_ok, shown_from, shown_oks};
+ghost use Rattle.st_session.specs.Running.{IsRelease};
+
+use crate::session::Answer;
+use st_calls::LineFault;
+use st_lines::{Failed, Outlet, Sink};
+use st_model::{Event, Log, Reply};
+use st_replies::{Summary, not_built_line, reply_line, summary_line};
+use st_trace::trace_line;
+use st_units::{Bytes, Cause, NoMemory};
+use std::alloc::Global;
+
+/// Why the output wasn't written.
+#[derive(Clone, Copy, Debug, PartialEq, Eq)]
+pub(crate) enum Stop {
+    Fault,
+    OutOfMemory,
+}
+
+impl From<NoMemory> for Stop {
+    ghost use Rattle.std.specs.Prelude.{◌≡◌};
+    ghost use Rattle.st_session.specs.declared.output.Stop.TheVariants.{OutOfMemory};
+
+    ghost from_gives = { λ _ e. e ≡ OutOfMemory };
+
+    fn from(_refused: NoMemory) -> Stop {
+        Stop::OutOfMemory
+    }
+}
+
+impl From<Failed> for Stop {
+    ghost use Rattle.std.specs.Prelude.{◌≡◌};
+    ghost use Rattle.st_session.specs.declared.output.Stop.TheVariants.{Fault};
+
+    ghost from_gives = { λ _ e. e ≡ Fault };
+
+    fn from(_failed: Failed) -> Stop {
+        Stop::Fault
+    }
+}
+
+/// What a line is answered, and whether its code is 0.
+#[derive(Drop)]
+struct LineText {
+    text: Bytes,
+    ok: bool,
+}
+
+fn fault_line(alloc: Global, number: u64, fault: LineFault) -> Result<Bytes, NoMemory>
+    ensures { IfOk result (λ text. text ≡ fault_line number fault) }
+{
+    match fault {
+        LineFault::BadCall(member) => {
+            reply_line(alloc, number, &Reply::refused(Cause::BadCall(member)))
+        }
+        LineFault::BadName(member) => {
+            reply_line(alloc, number, &Reply::refused(Cause::BadName(member)))
+        }
+        LineFault::NotBuilt(name) => not_built_line(alloc, number, name.text()),
+        LineFault::OutOfMemory => reply_line(alloc, number, &Reply::refused(Cause::OutOfMemory)),
+    }
+}
+
+/// The reply in the release at that place of the log.
+fn reply_at(log: &Log, number: u64, place: usize) -> &Reply
+    requires { IsRelease number log.now.items place }
+    ensures { Replies number log.now.items result.now }
+{
+    match log.at(place) {
+        Event::Release(_, _, entries) => &entries.at(0).reply,
+        Event::Arrive(_, _, _) | Event::Grant(_, _) => unreachable!(),
+    }
+}
+
+fn line_text(
+    alloc: Global,
+    log: &Log,
+    number: u64,
+    answer: Answer,
+) -> Result<LineText, NoMemory>
+    requires { IsShown number log.now.items answer }
+    ensures text { IfOk result (λ line. line.text ≡ shown_line number log.now.items answer) }
+    ensures ok { IfOk result (λ line. line.ok ≡ shown_ok number log.now.items answer) }
+{
+    match answer {
+        Answer::Ran(place) => {
+            let reply = reply_at(log, number, place);
+            let text = reply_line(alloc, number, reply)?;
+            Ok(LineText {
+                text,
+                ok: reply.code == 0,
+            })
+        }
+        Answer::Fault(fault) => {
+            let text = fault_line(alloc, number, fault)?;
+            Ok(LineText { text, ok: false })
+        }
+        Answer::Refused => {
+            let text = reply_line(alloc, number, &Reply::refused(Cause::OutOfMemory))?;
+            Ok(LineText { text, ok: false })
+        }
+    }
+}
+
+fn print<K: Sink>(sink: &mut K, outlet: &mut Outlet, text: &[u8]) -> Result<(), Failed>
+    ensures prints { OnOk result (Prints (K.held sink.old) outlet.old (K.held sink.new) outlet.new text.now) }
+    ensures stops { OnErr result (Stops (K.held sink.old) outlet.old (K.held sink.new) text.now) }
+    ensures fault { OnErr result (Rose (K.faults sink.old) (K.faults sink.new)) }
+    ensures later { K.faults sink.old ≤ K.faults sink.new }
+{
+    outlet.take(sink, text)
+}
+
+fn next_count(count: u64, counts: bool) -> u64
+    requires { count < 2 ^ 64 - 1 }
+    ensures { result ≡ count + (if counts then 1 else 0) }
+{
+    if counts { count + 1 } else { count }
+}
+
+/// Prints the reply lines, and counts those with code 0.
+fn print_replies<K: Sink>(
+    alloc: Global,
+    sink: &mut K,
+    outlet: &mut Outlet,
+    log: &Log,
+    answers: &[Answer],
+) -> Result<u64, Stop>
+    requires { AreShown 1 log.now.items answers.now }
+    ensures prints { OnOk result (Prints (K.held sink.old) outlet.old (K.held sink.new) outlet.new (shown_from 1 log.now.items answers.now)) }
+    ensures counted { IfOk result (λ oks. oks ≡ shown_oks 1 log.now.items answers.now) }
+    ensures few { IfOk result (λ oks. oks ≤ length answers.now) }
+    ensures stops { OnErr result (Stops (K.held sink.old) outlet.old (K.held sink.new) (shown_from 1 log.now.items answers.now)) }
+    ensures fault { result ≡ Err Stop.Fault → Rose (K.faults sink.old) (K.faults sink.new) }
+    ensures later { K.faults sink.old ≤ K.faults sink.new }
+{
+    let mut number = 1u64;
+    let mut oks = 0u64;
+    for answer in answers {
+        let line = line_text(alloc, log, number, *answer)?;
+        print(sink, outlet, line.text.items())?;
+        oks = next_count(oks, line.ok);
+        number += 1;
+    }
+    Ok(oks)
+}
+
+/// Prints a line for each event.
+fn print_trace<K: Sink>(
+    alloc: Global,
+    sink: &mut K,
+    outlet: &mut Outlet,
+    events: &[Event],
+) -> Result<(), Stop>
+    ensures prints { OnOk result (Prints (K.held sink.old) outlet.old (K.held sink.new) outlet.new (trace_of events.now)) }
+    ensures stops { OnErr result (Stops (K.held sink.old) outlet.old (K.held sink.new) (trace_of events.now)) }
+    ensures fault { result ≡ Err Stop.Fault → Rose (K.faults sink.old) (K.faults sink.new) }
+    ensures later { K.faults sink.old ≤ K.faults sink.new }
+{
+    for event in events {
+        let text = trace_line(alloc, event)?;
+        print(sink, outlet, text.items())?;
+    }
+    Ok(())
+}
+
+fn print_summary<K: Sink>(
+    alloc: Global,
+    sink: &mut K,
+    outlet: &mut Outlet,
+    lines: u64,
+    oks: u64,
+) -> Result<(), Stop>
+    requires { oks ≤ lines }
+    ensures prints { OnOk result (Prints (K.held sink.old) outlet.old (K.held sink.new) outlet.new (summary lines oks)) }
+    ensures stops { OnErr result (Stops (K.held sink.old) outlet.old (K.held sink.new) (summary lines oks)) }
+    ensures fault { result ≡ Err Stop.Fault → Rose (K.faults sink.old) (K.faults sink.new) }
+    ensures later { K.faults sink.old ≤ K.faults sink.new }
+{
+    let sums = Summary {
+        lines,
+        ok: oks,
+        refused: lines - oks,
+        written: 0,
+        read: 0,
+    };
+    let text = summary_line(alloc, &sums)?;
+    print(sink, outlet, text.items())?;
+    Ok(())
+}
+
+/// Writes the whole output: the reply lines, the trace where it is asked for, and the summary.
+pub(crate) fn write_out<K: Sink>(
+    alloc: Global,
+    sink: &mut K,
+    log: &Log,
+    answers: &[Answer],
+    trace: bool,
+) -> Result<(), Stop>
+    requires { AreShown 1 log.now.items answers.now }
+    ensures written { OnOk result (Appends (K.held sink.old) (K.held sink.new) (whole trace log.now.items answers.now)) }
+    ensures prefix { OnErr result (Started (K.held sink.old) (K.held sink.new) (whole trace log.now.items answers.now)) }
+    ensures fault { result ≡ Err Stop.Fault → Rose (K.faults sink.old) (K.faults sink.new) }
+    ensures later { K.faults sink.old ≤ K.faults sink.new }
+{
+    let mut outlet = Outlet::make(alloc)?;
+    let oks = print_replies(alloc, sink, &mut outlet, log, answers)?;
+    let events = if trace { log.items() } else { &[] };
+    print_trace(alloc, sink, &mut outlet, events)?;
+    print_summary(alloc, sink, &mut outlet, answers.len() as u64, oks)?;
+    outlet.flush(sink)?;
+    Ok(())
+}

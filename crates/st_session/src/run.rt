@@ -1,0 +1,43 @@
+ghost use Rattle.std.specs.Prelude.{◌≡◌, []};
+
+use st_lines::Limit;
+use st_model::Log;
+use std::alloc::Global;
+
+/// How a run ended.
+#[derive(Clone, Copy, Debug, PartialEq, Eq)]
+pub enum Status {
+    /// All output was written.
+    Done,
+    /// The words aren't those of the command.
+    Usage,
+    /// The source failed.
+    ReadFault,
+    /// The sink failed.
+    WriteFault,
+    OutOfMemory,
+    /// The input is beyond that limit.
+    InputLimit(Limit),
+}
+
+/// What a run leaves: how it ended, the rack that it was handed, and the log of its lock.
+pub struct Outcome<R> {
+    pub status: Status,
+    pub rack: R,
+    pub log: Log,
+}
+
+impl<R> Outcome<R> {
+    /// A run that ended before any line was run.
+    pub(crate) fn early(alloc: Global, status: Status, rack: R) -> Outcome<R>
+        ensures status { result.status ≡ status }
+        ensures rack { result.rack ≡ rack }
+        ensures log { result.log.items ≡ [] }
+    {
+        Outcome {
+            status,
+            rack,
+            log: Log::make(alloc),
+        }
+    }
+}

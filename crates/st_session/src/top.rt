@@ -1,0 +1,141 @@
+ghost use Rattle.std.specs.Prelude.{ℕ, List, ◌≡◌, ◌⊎◌, ◌<◌, ◌≤◌, [], Some, None, map, length, string_bytes, IfSome};
+ghost use Rattle.std.specs.Io.KnownBytes.{Appends};
+ghost use Rattle.st_lines.specs.Causes.{Rose};
+ghost use Rattle.st_model.specs.History.{History};
+ghost use Rattle.st_words.specs.Command.{words_of};
+ghost use Rattle.st_session.specs.Headline.{AreLinesOf, IsRunOf, IsDone, IsCutOff};
+ghost use Rattle.st_session.specs.Opening.{IsFit, opening};
+ghost use Rattle.st_session.specs.Out.{out};
+ghost use Rattle.st_session.specs.Printing.{Started, AreShown, whole};
+ghost use Rattle.st_session.specs.Statuses.{IsAfterInput, IsWritten, IsEarly, status_of, asks_trace};
+
+use crate::lines::run_lines;
+use crate::opening::opening;
+use crate::output::{Stop, write_out};
+use crate::run::{Outcome, Status};
+use crate::session::{Answer, Session};
+use st_lines::{Limit, Lines, MOST_BYTES, ReadStop, Sink, Source, read_lines};
+use st_model::{Gate, Log};
+use st_rack::Rack;
+use st_units::NoMemory;
+use st_words::{WordsFault, read_words};
+use std::alloc::Global;
+use std::sync::Wait;
+use std::thread::Threads;
+
+fn status_of(stop: ReadStop) -> Status
+    ensures { result ≡ status_of stop }
+{
+    match stop {
+        ReadStop::Fault => Status::ReadFault,
+        ReadStop::Limit(limit) => Status::InputLimit(limit),
+        ReadStop::OutOfMemory => Status::OutOfMemory,
+    }
+}
+
+/// Writes the output, and tells how that ended.
+fn written<K: Sink>(
+    alloc: Global,
+    sink: &mut K,
+    log: &Log,
+    answers: &[Answer],
+    trace: bool,
+) -> Status
+    requires { AreShown 1 log.now.items answers.now }
+    ensures status { IsAfterInput result }
+    ensures done { result ≡ Status.Done → Appends (K.held sink.old) (K.held sink.new) (whole trace log.now.items answers.now) }
+    ensures cut { result ≡ Status.WriteFault → Started (K.held sink.old) (K.held sink.new) (whole trace log.now.items answers.now) }
+    ensures memory { result ≡ Status.OutOfMemory → Started (K.held sink.old) (K.held sink.new) (whole trace log.now.items answers.now) }
+    ensures fault { result ≡ Status.WriteFault → Rose (K.faults sink.old) (K.faults sink.new) }
+    ensures later { K.faults sink.old ≤ K.faults sink.new }
+{
+    match write_out(alloc, sink, log, answers, trace) {
+        Ok(()) => Status::Done,
+        Err(Stop::Fault) => Status::WriteFault,
+        Err(Stop::OutOfMemory) => Status::OutOfMemory,
+    }
+}
+
+/// Runs the lines on this rack, and writes the output.
+fn run_input<K: Sink, R: Rack, G: Gate>(
+    alloc: Global,
+    lines: &Lines,
+    trace: bool,
+    sink: &mut K,
+    rack: R,
+    gate: &G,
+) -> Outcome<R>
+    requires { IsFit (R.devs rack) }
+    ensures rack { result.rack ≡ rack }
+    ensures status { IsAfterInput result.status }
+    ensures done { result.status ≡ Status.Done → IsRunOf (R.devs rack) lines.now result.log.items × Appends (K.held sink.old) (K.held sink.new) (out 1 trace lines.now result.log.items) }
+    ensures cut { result.status ≡ Status.WriteFault → IsRunOf (R.devs rack) lines.now result.log.items × Started (K.held sink.old) (K.held sink.new) (out 1 trace lines.now result.log.items) }
+    ensures memory { result.status ≡ Status.OutOfMemory → Started (K.held sink.old) (K.held sink.new) (out 1 trace lines.now result.log.items) }
+    ensures history { History (opening (R.devs rack)) result.log.items }
+    ensures fault { result.status ≡ Status.WriteFault → Rose (K.faults sink.old) (K.faults sink.new) }
+    ensures later { K.faults sink.old ≤ K.faults sink.new }
+{
+    let Ok(state) = opening(alloc, &rack) else {
+        return Outcome::early(alloc, Status::OutOfMemory, rack);
+    };
+    let mut session = Session {
+        state,
+        log: Log::make(alloc),
+        tickets: 0,
+    };
+    let ran = run_lines(alloc, gate, &mut session, lines);
+    let Session { state: _state, log, tickets: _ } = session;
+    let Ok(answers) = ran else {
+        return Outcome {
+            status: Status::OutOfMemory,
+            rack,
+            log,
+        };
+    };
+    let status = written(alloc, sink, &log, answers.items(), trace);
+    Outcome { status, rack, log }
+}
+
+/// Runs a script: reads the words and the whole input, runs each line that is a call, and writes
+/// the reply lines, with `--trace` the trace, and the summary.
+///
+/// Nothing is written before all lines have run. The rack comes back as it was handed in, and the
+/// log of the lock with it. Want of memory may end a run at any moment; each other status has its
+/// cause as a clause.
+pub fn run_words<W: Threads + Wait + Copy + Sync, S: Source, K: Sink, R: Rack + Send, G: Gate + Sync>(
+    rt: &W,
+    alloc: Global,
+    words: &[String],
+    source: &mut S,
+    sink: &mut K,
+    rack: R,
+    gate: &G,
+) -> Outcome<R>
+    requires { IsFit (R.devs rack) }
+    ensures rack { result.rack ≡ rack }
+    ensures done { result.status ≡ Status.Done → IsDone (R.devs rack) (asks_trace (words_of (map string_bytes words.now))) (S.left source.old) (K.held sink.old) (K.held sink.new) result.log.items }
+    ensures cut_off { result.status ≡ Status.WriteFault → IsCutOff (R.devs rack) (asks_trace (words_of (map string_bytes words.now))) (S.left source.old) (K.held sink.old) (K.held sink.new) result.log.items }
+    ensures out_of_memory { result.status ≡ Status.OutOfMemory → (lines : List (List ℕ)) × AreLinesOf (S.left source.old) lines × Started (K.held sink.old) (K.held sink.new) (out 1 (asks_trace (words_of (map string_bytes words.now))) lines result.log.items) }
+    ensures history { History (opening (R.devs rack)) result.log.items }
+    ensures usage { result.status ≡ Status.Usage → words_of (map string_bytes words.now) ≡ None }
+    ensures no_usage { words_of (map string_bytes words.now) ≡ None → (result.status ≡ Status.Usage) ⊎ (result.status ≡ Status.OutOfMemory) }
+    ensures read_fault { result.status ≡ Status.ReadFault → Rose (S.faults source.old) (S.faults source.new) }
+    ensures write_fault { result.status ≡ Status.WriteFault → Rose (K.faults sink.old) (K.faults sink.new) }
+    ensures limit { (limit : Limit) → result.status ≡ Status.InputLimit limit → (limit ≡ Limit.Bytes) × IfSome (S.left source.old) (λ input. MOST_BYTES < length input) }
+    ensures within_limit { IsWritten result.status → IfSome (S.left source.old) (λ input. length input ≤ MOST_BYTES) }
+    ensures early { IsEarly result.status → (sink.new ≡ sink.old) × (result.log.items ≡ []) }
+{
+    let _ = rt;
+    let words = match read_words(alloc, words) {
+        Ok(words) => words,
+        Err(WordsFault::Usage) => return Outcome::early(alloc, Status::Usage, rack),
+        Err(WordsFault::OutOfMemory) => {
+            return Outcome::early(alloc, Status::OutOfMemory, rack);
+        }
+    };
+    let lines = match read_lines(alloc, source) {
+        Ok(lines) => lines,
+        Err(stop) => return Outcome::early(alloc, status_of(stop), rack),
+    };
+    run_input(alloc, &lines, words.trace, sink, rack, gate)
+}

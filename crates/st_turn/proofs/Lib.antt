@@ -1,0 +1,9 @@
+pub mod Totals
+pub mod PartSteps
+pub mod Logs
+pub mod Turns
+pub mod Splits
+pub mod Joins
+pub mod Counting
+pub mod Ends
+pub mod SeatViews

@@ -1,0 +1,105 @@
+ghost use Rattle.std.specs.Prelude.{List, ◌≡◌, ◌++◌, [], ◌∷◌, true, false, None, Some, IfOk, IfErr};
+ghost use Rattle.st_turn.specs.Views.{IsLent, GoesOn, first_seat, with_book, after_put};
+ghost use Rattle.st_turn.specs.Ruling.{blank_view};
+ghost use Rattle.st_turn.specs.Seated.{start_view};
+
+use crate::kinds::TurnRule;
+use crate::logged::Logged;
+use crate::seat::{NoMemory, SeatOf, TurnSeat};
+use crate::standing::Standing;
+use crate::steps::{TableSeat, TurnTable, leave_last, leave_turn, take_alone};
+use crate::waiting::{draw_ticket, wait_turn, wake};
+use atomic_table::Table;
+use std::alloc::Global;
+use std::marker::Model;
+use std::sync::Wait;
+
+/// One book, lent to one seat at a time, in the order in which they ask.
+///
+/// Contracts see a turn as the name that its seats have in `turn`. Share it by reference, or in an `Arc`.
+pub struct Turn<B: Logged> {
+    pub(crate) table: Table<Option<B>, Standing<B::Event, B::Opening>, (), TurnRule<B>, Global>,
+}
+
+impl<B: Logged> Model for Turn<B> {
+    ghost use Rattle.std.specs.Prelude.{◌≡◌};
+    ghost use Rattle.atomic_table.specs.Seated.{TableId};
+
+    ghost Value = { TableId };
+
+    ghost view = { λ t. t.table.shared.table_id };
+
+    ghost invariant = { λ t. (t.table.shared.table_id.words ≡ 3) × (t.table.shared.table_id.slots ≡ 1) };
+}
+
+/// Puts the first book into the empty slot.
+fn put_first<B: Logged>(table: &TurnTable<B>, seat: &mut TableSeat<B>, book: B)
+    requires words { table.now.table_id.words ≡ 3 }
+    requires here { seat.old.table_id ≡ table.now.table_id }
+    requires blank { seat.old.me ≡ (blank_view, []) }
+    requires empty { B.events book ≡ [] }
+    requires fits { B.fits book (B.opens book) }
+    ensures here { seat.new.table_id ≡ seat.old.table_id }
+    ensures view { seat.new.me ≡ (start_view (B.opens book), []) }
+{
+    match take_alone(table, seat) {
+        None => leave_last(table, seat, book),
+        Some(_other) => unreachable!(),
+    }
+}
+
+impl<B: Logged> Turn<B> {
+    /// A turn that lends this book, whose log is empty, and the turn's first seat, of number 0. The book's opening is
+    /// the seats' from then on. Where there is no memory, the book comes back.
+    pub fn make(alloc: Global, book: B) -> Result<(Turn<B>, TurnSeat<B>), (B, NoMemory)>
+        requires empty { B.events book ≡ [] }
+        requires fits { B.fits book (B.opens book) }
+        ensures first { IfOk result (λ made. made.1 ≡ first_seat made.0 (B.opens book)) }
+        ensures back { IfErr result (λ refused. refused.0 ≡ book) }
+    {
+        match Table::vacant(alloc, &[0, 0, 1], 1, &()) {
+            Err(_) => Err((book, NoMemory)),
+            Ok((table, mut seat)) => {
+                put_first(&table.shared, &mut seat, book);
+                Ok((
+                    Turn { table },
+                    SeatOf {
+                        seat,
+                        number: 0,
+                        claimed: 1,
+                        last: false,
+                    },
+                ))
+            }
+        }
+    }
+
+    /// Waits for the seat's turn, and takes the book. It takes no memory.
+    pub fn take(&self, rt: &impl Wait, seat: &mut TurnSeat<B>) -> B
+        requires here { seat.old.turn ≡ self.now }
+        requires out { seat.old.is_in ≡ false }
+        ensures book { IsLent B.by B.events B.fits seat.old result }
+        ensures view { seat.new ≡ with_book seat.old (B.events result) }
+    {
+        let ticket = draw_ticket(rt, &self.table.shared, &mut seat.seat);
+        seat.last = false;
+        wait_turn(rt, &self.table.shared, &mut seat.seat, ticket)
+    }
+
+    /// Gives the book back, whose log goes on from the one taken by events of the seat. It takes no memory, and does
+    /// not wait.
+    pub fn put(&self, seat: &mut TurnSeat<B>, book: B)
+        requires here { seat.old.turn ≡ self.now }
+        requires in_turn { seat.old.is_in ≡ true }
+        requires book { (more : List B.Event) × GoesOn B.by B.events B.fits seat.old book more }
+        ensures view { seat.new ≡ after_put seat.old (B.events book) }
+        ensures own { (more : List B.Event) → B.events book ≡ seat.old.seen ++ more → seat.new.own ≡ seat.old.own ++ more }
+    {
+        if seat.last {
+            leave_last(&self.table.shared, &mut seat.seat, book);
+        } else {
+            let served = leave_turn(&self.table.shared, &mut seat.seat, book);
+            wake(&self.table.shared, served);
+        }
+    }
+}
