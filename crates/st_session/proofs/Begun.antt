@@ -1,10 +1,13 @@
 -- the state in which a run begins is valid
-use Rattle.std.proofs.Common.{◌≡◌, ℕ, ◌+◌, ◌<◌, ◌≤◌, ◌^◌, List, [], ◌∷◌, ◌++◌, length, drop, get_or, Option, Some, None, unwrap_or, lit≤, refl, sym, ◌∙◌, ap, suc, arith, add-one, append_assoc}
+use Rattle.std.proofs.Common.{◌≡◌, ℕ, ◌+◌, ◌<◌, ◌≤◌, ◌^◌, List, [], ◌∷◌, ◌++◌, length, map, drop, get_or, Option, Some, None, unwrap_or, lit≤, subst, sym, ◌∙◌, refl, ap, suc, arith, add-one, append_assoc}
 use Rattle.std.proofs.lemmas.Option.{slice_get-get_or}
 use Rattle.std.specs.Prelude.{slice_get, IfSome}
+use Rattle.std.specs.Ordering.{nat_cmp}
+use Rattle.std.specs.Cmp.Lexicographic.{slice_cmp}
 use Rattle.std.specs.List.{AllByRecursion}
+use Rattle.std.specs.List.Sorted.{IsStrictlySortedBy}
 use Rattle.st_units.specs.declared.rows.DevRow.{DevRow}
-use Rattle.st_rack.specs.Calls.{Devices, sectors_of}
+use Rattle.st_rack.specs.Calls.{Devices, Rises, path_in, sectors_of}
 use Rattle.st_rack.specs.Device.{Path}
 use Rattle.st_model.specs.Valid.{IsValid}
 use Rattle.st_session.proofs.Places.{drop_at}
@@ -22,12 +25,23 @@ small_rows : (devs ds : Devices) → IsFit devs → AllByRecursion (λ (row : De
 small_rows devs [] fit = tt
 small_rows devs (d ∷ ds) fit = (small_or_none (sectors_of devs d.0) (fit.small d.0), small_rows devs ds fit)
 
-pub opening-IsValid : (devs : Devices) → IsFit devs → IsValid (opening devs)
-opening-IsValid devs fit = record {
+paths-rows_of : (devs ds : Devices) → map (λ (row : DevRow). row.path) (rows_of devs ds) ≡ map path_in ds
+paths-rows_of devs [] = refl
+paths-rows_of devs (d ∷ ds) = ap (λ ps. d.0 ∷ ps) (paths-rows_of devs ds)
+
+pub opening-IsValid : (devs : Devices) → IsFit devs → Rises devs → IsValid (opening devs)
+opening-IsValid devs fit rises = record {
   from_one = lit≤ tt;
   bounded = lit≤ tt;
-  rack = record { few = rw (length-rows_of devs devs) fit.few; small = small_rows devs devs fit };
+  rack = record {
+    few = rw (length-rows_of devs devs) fit.few;
+    small = small_rows devs devs fit;
+    rising = subst (IsStrictlySortedBy (slice_cmp nat_cmp)) (sym (paths-rows_of devs devs)) rises;
+  };
+  count = omega arith;
   pools = tt;
+  there = tt;
+  flights = tt;
   apart = tt;
 }
 
