@@ -18,8 +18,8 @@ printing_more before old new waiting left text rest whole sent h took e = record
   written = h.written ++ sent;
   took = Appends-more before old new h.written sent h.took took;
   makes = append_assoc h.written sent (left ++ rest)
-    ∙ ap (λ t. h.written ++ t) (sym (append_assoc sent left rest) ∙ ap (λ t. t ++ rest) (sym e) ∙ append_assoc waiting text rest)
-    ∙ h.makes;
+      ∙ ap (λ t. h.written ++ t) (sym (append_assoc sent left rest) ∙ ap (λ t. t ++ rest) (sym e) ∙ append_assoc waiting text rest)
+      ∙ h.makes;
 }
 
 -- a piece that was cut off
@@ -29,8 +29,8 @@ printing_cut before old new waiting text rest whole n h took = record {
   rest = drop n (waiting ++ text) ++ rest;
   took = Appends-more before old new h.written _ h.took took;
   makes = append_assoc h.written (take n (waiting ++ text)) (drop n (waiting ++ text) ++ rest)
-    ∙ ap (λ t. h.written ++ t) (sym (append_assoc (take n (waiting ++ text)) (drop n (waiting ++ text)) rest) ∙ ap (λ t. t ++ rest) (take-append-drop n (waiting ++ text)) ∙ append_assoc waiting text rest)
-    ∙ h.makes;
+      ∙ ap (λ t. h.written ++ t) (sym (append_assoc (take n (waiting ++ text)) (drop n (waiting ++ text)) rest) ∙ ap (λ t. t ++ rest) (take-append-drop n (waiting ++ text)) ∙ append_assoc waiting text rest)
+      ∙ h.makes;
 }
 
 -- all that waits is the rest, and it was sent

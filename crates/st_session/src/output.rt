@@ -76,12 +76,7 @@ fn reply_at(log: &Log, number: u64, place: usize) -> &Reply
     }
 }
 
-fn line_text(
-    alloc: Global,
-    log: &Log,
-    number: u64,
-    answer: &Answer,
-) -> Result<LineText, NoMemory>
+fn line_text(alloc: Global, log: &Log, number: u64, answer: &Answer) -> Result<LineText, NoMemory>
     requires { IsShown number log.now.items answer.now }
     ensures text { IfOk result (λ line. line.text ≡ shown_line number log.now.items answer.now) }
     ensures ok { IfOk result (λ line. line.ok ≡ shown_ok number log.now.items answer.now) }

@@ -3,7 +3,9 @@ ghost use Rattle.st_model.specs.Valid.{IsValid};
 ghost use Rattle.st_calls.specs.Form.{form};
 
 use st_calls::{LineFault, read_call};
-use st_model::{Call, EngineState, Entry, EntryList, Env, Event, Gate, Log, Origin, Reply, step, want_of};
+use st_model::{
+    Call, EngineState, Entry, EntryList, Env, Event, Gate, Log, Origin, Reply, step, want_of,
+};
 use st_units::{Cause, NoMemory};
 use st_wants::Want;
 use std::alloc::Global;

@@ -8,7 +8,8 @@ returns-in_err-push-clause-going g c =
 
 pub loop-i-preserved : goal.loop-i-preserved
 loop-i-preserved g c =
-    let going = going_more c.args.lines.now c.args.session.now.state c.loop-i.i c.at.result.now c.loop-i.session c.run_line.new.self c.in_ok-answer.answer c.loop-i.invariant.0 c.at.ensures c.in_ok-answer.ensures.answered in
-    (going,
-     rw c.in_ok-push.ensures.ok (answer_more c.args.lines.now c.args.session.now.state c.loop-i.i c.at.result.now c.loop-i.session c.run_line.new.self c.in_ok-answer.answer c.loop-i.answers c.loop-i.invariant.0 c.at.ensures c.in_ok-answer.ensures.answered c.loop-i.invariant.2 c.loop-i.invariant.1),
-     rw c.in_ok-push.ensures.ok (omega (arith, length-append c.loop-i.answers (c.in_ok-answer.answer ∷ []), c.loop-i.invariant.2)))
+    let going = going_more c.args.lines.now c.args.session.now.state c.loop-i.i c.at.result.now c.loop-i.session c.run_line.new.self c.in_ok-answer.answer c.loop-i.invariant.0 c.at.ensures c.in_ok-answer.ensures.answered in (
+      going,
+      rw c.in_ok-push.ensures.ok (answer_more c.args.lines.now c.args.session.now.state c.loop-i.i c.at.result.now c.loop-i.session c.run_line.new.self c.in_ok-answer.answer c.loop-i.answers c.loop-i.invariant.0 c.at.ensures c.in_ok-answer.ensures.answered c.loop-i.invariant.2 c.loop-i.invariant.1),
+      rw c.in_ok-push.ensures.ok (omega (arith, length-append c.loop-i.answers (c.in_ok-answer.answer ∷ []), c.loop-i.invariant.2)),
+    )
