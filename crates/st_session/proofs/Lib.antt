@@ -3,5 +3,7 @@ pub mod Laned
 pub mod Logs
 pub mod Places
 pub mod Printed
+pub mod Runs
+
 pub mod Shown
 pub mod Steps

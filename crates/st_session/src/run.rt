@@ -21,6 +21,7 @@ pub enum Status {
 }
 
 /// What a run leaves: how it ended, the rack that it was handed, and the log of its lock.
+#[derive(Drop)]
 pub struct Outcome<R> {
     pub status: Status,
     pub rack: R,

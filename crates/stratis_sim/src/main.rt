@@ -1,86 +1,17 @@
 //! A simulated engine over standard input and output.
 #![tactic(auto)]
 
-ghost use Rattle.std.specs.Prelude.{◌≡◌, ◌+◌, IfOk, OnOk, length};
-ghost use Rattle.st_session.specs.Opening.{IsFit};
-ghost use Rattle.stratis_sim.specs.Devices.{AreOurs, has_device};
-
 use st_lines::{Limit, Reading, Writing};
-use st_memrack::NoFaultRack;
 use st_model::NoGate;
-use st_rack::Rack;
 use st_session::{Status, run_words};
-use st_units::{DevPath, NoMemory};
-use std::alloc::Global;
 use std::process::ExitCode;
 use std::{env, io};
 
-/// The sectors of each device.
-const SECTORS: u64 = 65_536;
-
-/// The devices, in byte order of their paths.
-const PATHS: [&str; 12] = [
-    "/dev/sim0",
-    "/dev/sim1",
-    "/dev/sim10",
-    "/dev/sim11",
-    "/dev/sim2",
-    "/dev/sim3",
-    "/dev/sim4",
-    "/dev/sim5",
-    "/dev/sim6",
-    "/dev/sim7",
-    "/dev/sim8",
-    "/dev/sim9",
-];
+/// How many devices the program makes.
+const DEVICES: usize = 12;
 
 /// The exit status where memory was refused before the run.
 const OUT_OF_MEMORY: u8 = 5;
-
-fn has_device(devs: &[(DevPath, u64)], path: &DevPath) -> bool
-    ensures { result ≡ has_device path.now devs.now }
-{
-    devs.iter().any(|dev| dev.0.bytes() == path.bytes())
-}
-
-/// Puts one more device into the list, which is refused where its path is there.
-fn put_device(
-    alloc: Global,
-    devs: &mut Vec<(DevPath, u64)>,
-    text: &str,
-) -> Result<(), NoMemory>
-    requires { AreOurs devs.old.items }
-    ensures ours { AreOurs devs.new.items }
-    ensures one { OnOk result (length devs.new.items ≡ length devs.old.items + 1) }
-{
-    let Ok(path) = DevPath::read(alloc, text.as_bytes()) else {
-        return Err(NoMemory);
-    };
-    if has_device(devs.as_slice(), &path) {
-        return Err(NoMemory);
-    }
-    devs.push((path, SECTORS))?;
-    Ok(())
-}
-
-fn devices(alloc: Global) -> Result<Vec<(DevPath, u64)>, NoMemory>
-    ensures ours { IfOk result (λ devs. AreOurs devs.items) }
-    ensures all { IfOk result (λ devs. length devs.items ≡ 12) }
-{
-    let mut list = Vec::new(alloc);
-    for text in PATHS {
-        put_device(alloc, &mut list, text)?;
-    }
-    Ok(list)
-}
-
-/// A rack of the devices, blank.
-fn rack(alloc: Global) -> Result<NoFaultRack, NoMemory>
-    ensures { IfOk result (λ rack. IsFit (⟦<NoFaultRack as Rack>⟧.devs rack)) }
-{
-    let devs = devices(alloc)?;
-    NoFaultRack::blank(alloc, devs.as_slice())
-}
 
 fn words(rt: &HostRuntime) -> io::Result<Vec<String>> {
     let mut list = Vec::new(rt.alloc());
@@ -119,7 +50,7 @@ fn tell(rt: &HostRuntime, status: Status) -> io::Result<()> {
 
 fn main(rt: HostRuntime) -> io::Result<ExitCode> {
     let words = words(&rt)?;
-    let Ok(rack) = rack(rt.alloc()) else {
+    let Ok(rack) = st_sims::rack(rt.alloc(), DEVICES) else {
         tell(&rt, Status::OutOfMemory)?;
         return Ok(ExitCode::from(OUT_OF_MEMORY));
     };

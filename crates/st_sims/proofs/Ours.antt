@@ -4,7 +4,7 @@ use Rattle.std.specs.List.{AllByRecursion, IsDistinct, list_any}
 use Rattle.st_rack.specs.Calls.{Devices, path_in, sectors_of}
 use Rattle.st_rack.specs.Device.{Path}
 use Rattle.st_memrack.specs.Blank.{AreDistinct}
-use Rattle.stratis_sim.specs.Devices.{AreOurs, has_device}
+use Rattle.st_sims.specs.Devices.{AreOurs, has_device}
 
 or_parts : (a b : Bool) → (a || b) ≡ false → (a ≡ false) × (b ≡ false)
 or_parts true b h = absurd cc

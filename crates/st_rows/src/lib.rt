@@ -1,0 +1,5 @@
+//! Whole runs of the program's own call, over sources and sinks in memory.
+#![tactic(auto)]
+
+#[cfg(test)]
+mod runs;
