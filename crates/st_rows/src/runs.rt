@@ -125,7 +125,8 @@ fn a_wrong_word_is_usage(rt: HostRuntime) -> Result<()> {
 fn a_source_that_fails_is_a_read_fault(rt: HostRuntime) -> Result<()> {
     let alloc = rt.alloc();
     let words = words(alloc, false)?;
-    let line = "{\"call\":\"EngineStateReport\"}\n{\"call\":\"EngineStateReport\"}\n{\"call\":\"EngineStateReport\"}\n";
+    let line =
+        "{\"call\":\"EngineStateReport\"}\n{\"call\":\"EngineStateReport\"}\n{\"call\":\"EngineStateReport\"}\n";
     let mut source = source(alloc, line, vec![in alloc; 2]?)?;
     let mut sink = MemorySink::new(alloc, 1000, Vec::new(alloc));
     let rack = st_sims::rack(alloc, 1)?;

@@ -4,6 +4,5 @@ pub mod Logs
 pub mod Places
 pub mod Printed
 pub mod Runs
-
 pub mod Shown
 pub mod Steps

@@ -36,11 +36,7 @@ fn has_device(devs: &[(DevPath, u64)], path: &DevPath) -> bool
 }
 
 /// Puts one more device into the list, which is refused where its path is there.
-fn put_device(
-    alloc: Global,
-    devs: &mut Vec<(DevPath, u64)>,
-    text: &str,
-) -> Result<(), NoMemory>
+fn put_device(alloc: Global, devs: &mut Vec<(DevPath, u64)>, text: &str) -> Result<(), NoMemory>
     requires { AreOurs devs.old.items }
     ensures ours { AreOurs devs.new.items }
     ensures one { OnOk result (length devs.new.items ≡ length devs.old.items + 1) }
@@ -76,4 +72,3 @@ pub fn rack(alloc: Global, count: usize) -> Result<NoFaultRack, NoMemory>
     let devs = devices(alloc, count)?;
     NoFaultRack::blank(alloc, devs.as_slice())
 }
-

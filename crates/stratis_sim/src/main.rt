@@ -56,7 +56,15 @@ fn main(rt: HostRuntime) -> io::Result<ExitCode> {
     };
     let mut source = Reading::new(rt.reader());
     let mut sink = Writing::new(io::writer(&rt));
-    let outcome = run_words(&rt, rt.alloc(), &words, &mut source, &mut sink, rack, &NoGate);
+    let outcome = run_words(
+        &rt,
+        rt.alloc(),
+        &words,
+        &mut source,
+        &mut sink,
+        rack,
+        &NoGate,
+    );
     tell(&rt, outcome.status)?;
     Ok(ExitCode::from(code_of(outcome.status)))
 }

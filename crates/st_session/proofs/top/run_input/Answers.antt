@@ -20,25 +20,29 @@ returns-clause-done g c =
     let log = c.run_lines-ran.new.session.log.items in
     let same = answers_same c.args.lines.now log c.in-Ok-ran.answers c.in-Ok-ran.ensures.all c.in-Ok-ran.ensures.answers in
     let text : whole c.args.trace log c.items.result.now ≡ out 1 c.args.trace c.args.lines.now log
-        = ap (whole c.args.trace log) c.items.ensures ∙ whole-out c.args.trace c.args.lines.now log c.in-Ok-ran.answers c.in-Ok-ran.ensures.all same in
+    = ap (whole c.args.trace log) c.items.ensures ∙ whole-out c.args.trace c.args.lines.now log c.in-Ok-ran.answers c.in-Ok-ran.ensures.all same in
     let going = c.run_lines-ran.ensures.going in
-    λ e. (going-IsRunOf (g.R.Rack.devs c.args.rack) c.args.lines.now c.in-Ok.state going.0 c.run_lines-ran.new.session c.in-Ok.ensures.state going.1,
-      subst (λ (t : List ℕ). Appends (g.K.Sink.held c.args.sink.now) (g.K.Sink.held c.written-status.new.sink) t) text (c.written-status.ensures.done e))
+    λ e. (
+      going-IsRunOf (g.R.Rack.devs c.args.rack) c.args.lines.now c.in-Ok.state going.0 c.run_lines-ran.new.session c.in-Ok.ensures.state going.1,
+      subst (λ (t : List ℕ). Appends (g.K.Sink.held c.args.sink.now) (g.K.Sink.held c.written-status.new.sink) t) text (c.written-status.ensures.done e),
+    )
 
 pub returns-clause-cut : goal.returns-clause-cut
 returns-clause-cut g c =
     let log = c.run_lines-ran.new.session.log.items in
     let same = answers_same c.args.lines.now log c.in-Ok-ran.answers c.in-Ok-ran.ensures.all c.in-Ok-ran.ensures.answers in
     let text : whole c.args.trace log c.items.result.now ≡ out 1 c.args.trace c.args.lines.now log
-        = ap (whole c.args.trace log) c.items.ensures ∙ whole-out c.args.trace c.args.lines.now log c.in-Ok-ran.answers c.in-Ok-ran.ensures.all same in
+    = ap (whole c.args.trace log) c.items.ensures ∙ whole-out c.args.trace c.args.lines.now log c.in-Ok-ran.answers c.in-Ok-ran.ensures.all same in
     let going = c.run_lines-ran.ensures.going in
-    λ e. (going-IsRunOf (g.R.Rack.devs c.args.rack) c.args.lines.now c.in-Ok.state going.0 c.run_lines-ran.new.session c.in-Ok.ensures.state going.1,
-      subst (λ (t : List ℕ). Started (g.K.Sink.held c.args.sink.now) (g.K.Sink.held c.written-status.new.sink) t) text (c.written-status.ensures.cut e))
+    λ e. (
+      going-IsRunOf (g.R.Rack.devs c.args.rack) c.args.lines.now c.in-Ok.state going.0 c.run_lines-ran.new.session c.in-Ok.ensures.state going.1,
+      subst (λ (t : List ℕ). Started (g.K.Sink.held c.args.sink.now) (g.K.Sink.held c.written-status.new.sink) t) text (c.written-status.ensures.cut e),
+    )
 
 pub returns-clause-memory : goal.returns-clause-memory
 returns-clause-memory g c =
     let log = c.run_lines-ran.new.session.log.items in
     let same = answers_same c.args.lines.now log c.in-Ok-ran.answers c.in-Ok-ran.ensures.all c.in-Ok-ran.ensures.answers in
     let text : whole c.args.trace log c.items.result.now ≡ out 1 c.args.trace c.args.lines.now log
-        = ap (whole c.args.trace log) c.items.ensures ∙ whole-out c.args.trace c.args.lines.now log c.in-Ok-ran.answers c.in-Ok-ran.ensures.all same in
+    = ap (whole c.args.trace log) c.items.ensures ∙ whole-out c.args.trace c.args.lines.now log c.in-Ok-ran.answers c.in-Ok-ran.ensures.all same in
     λ e. subst (λ (t : List ℕ). Started (g.K.Sink.held c.args.sink.now) (g.K.Sink.held c.written-status.new.sink) t) text (c.written-status.ensures.memory e)
