@@ -5,3 +5,5 @@ pub mod Moments
 pub mod Parts
 pub mod Steps
 pub mod Readers
+
+pub mod Tagged
