@@ -1,6 +1,6 @@
 -- A small reader, which shows how a client speaks of what a crash leaves: a block of 512 bytes that counts as written where its
 -- first 8 bytes are a tag; it is then read as its 504 other bytes.
-use Rattle.std.specs.Prelude.{◌≡◌, ℕ, ◌+◌, List, take, drop, Option, Some, None, if◌then◌else◌}
+use Rattle.std.specs.Prelude.{ℕ, ◌+◌, List, Option, Some, None, if◌then◌else◌}
 use Rattle.std.specs.Str.{bytes_eq}
 use Rattle.st_rack.specs.Story.{Content}
 use Rattle.st_rack.specs.Device.{Path, cells}

@@ -1,4 +1,4 @@
-use Rattle.std.proofs.Common.{ℕ, refl}
+use Rattle.std.proofs.Common.{refl}
 use Rattle.st_rack.specs.Moments.{OnDevice}
 use Rattle.st_rack.specs.Steps.{Changed}
 use Rattle.st_rack.proofs.Moments.{left_in}

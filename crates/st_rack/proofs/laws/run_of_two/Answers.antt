@@ -1,5 +1,4 @@
-use Rattle.std.proofs.Common.{ℕ, refl}
-use Rattle.st_rack.specs.Device.{State}
+use Rattle.std.proofs.Common.{refl}
 use Rattle.st_rack.specs.Moments.{OnDevice}
 use Rattle.st_rack.specs.Steps.{Changed}
 use Rattle.st_rack.proofs.Moments.{goes_on, at_end, on_device_both}
