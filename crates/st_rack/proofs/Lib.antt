@@ -1,0 +1,9 @@
+pub mod Cells
+pub mod Pending
+pub mod Moments
+pub mod Outside
+pub mod Chance
+pub mod Readers
+pub mod Straight
+pub mod Growth
+pub mod Look

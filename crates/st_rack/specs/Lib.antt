@@ -1,0 +1,7 @@
+pub mod Story
+pub mod Device
+pub mod Calls
+pub mod Moments
+pub mod Parts
+pub mod Steps
+pub mod Readers
