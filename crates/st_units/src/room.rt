@@ -1,0 +1,90 @@
+ghost use Rattle.std.specs.Prelude.{◌≡◌, ◌+◌, ◌≤◌, ◌<◌, [], ◌∷◌, ◌++◌, OnOk, OnErr, IfErr, IsOk, length, slice_get, Some};
+
+use crate::memory::NoMemory;
+use std::alloc::Global;
+use std::marker::Model;
+
+/// Items in order, with room that was made for more: a push into that room takes no memory.
+/// Contracts see the items and the room.
+#[derive(Drop)]
+pub struct RoomyList<T> {
+    items: Vec<T>,
+}
+
+impl<T> Model for RoomyList<T> {
+    ghost use Rattle.std.specs.Prelude.{◌-◌, vec_len};
+    ghost use Rattle.std.specs.Vec.{vec_capacity};
+    ghost use Rattle.st_units.specs.Roomy.{Roomy};
+
+    ghost Value = { Roomy T };
+
+    ghost view = { λ l. record { items = l.items.items; room = vec_capacity l.items - vec_len l.items } };
+}
+
+impl<T> RoomyList<T> {
+    /// The empty list, which takes no memory.
+    pub fn make(alloc: Global) -> Self
+        ensures { result.items ≡ [] }
+    {
+        RoomyList {
+            items: Vec::new(alloc),
+        }
+    }
+
+    /// Makes room for `n` items more: the next `n` pushes take no memory and aren't refused.
+    pub fn reserve(&mut self, n: usize) -> Result<(), NoMemory>
+        ensures items { self.new.items ≡ self.old.items }
+        ensures room { OnOk result (n ≤ self.new.room) }
+    {
+        self.items.reserve(n)?;
+        Ok(())
+    }
+
+    /// Puts the item last. Where there is room it isn't refused; a refusal hands it back.
+    pub fn push(&mut self, item: T) -> Result<(), (T, NoMemory)>
+        ensures ok { OnOk result (self.new.items ≡ self.old.items ++ item ∷ []) }
+        ensures err { OnErr result (self.new.items ≡ self.old.items) }
+        ensures back { IfErr result (λ e. e.0 ≡ item) }
+        ensures granted { 0 < self.old.room → IsOk result }
+        ensures room { self.old.room ≤ self.new.room + 1 }
+    {
+        match self.items.push(item) {
+            Ok(()) => Ok(()),
+            Err(failed) => Err((failed.value, NoMemory)),
+        }
+    }
+
+    /// Puts the item last, into the room that was made.
+    pub fn put(&mut self, item: T)
+        requires { 0 < self.old.room }
+        ensures items { self.new.items ≡ self.old.items ++ item ∷ [] }
+        ensures room { self.old.room ≤ self.new.room + 1 }
+    {
+        match self.items.push(item) {
+            Ok(()) => {}
+            Err(_) => unreachable!(),
+        }
+    }
+
+    /// How many items there are.
+    pub fn len(&self) -> usize
+        ensures { result ≡ length self.now.items }
+    {
+        self.items.len()
+    }
+
+    /// The item at place `i`, counted from 0.
+    pub fn at(&self, i: usize) -> &T
+        requires { i < length self.now.items }
+        ensures { slice_get self.now.items i ≡ Some result.now }
+    {
+        &self.items[i]
+    }
+
+    /// All items, in order.
+    pub fn items(&self) -> &[T]
+        ensures { result.now ≡ self.now.items }
+    {
+        self.items.as_slice()
+    }
+}
