@@ -1,0 +1,5 @@
+pub mod Heads
+pub mod Records
+pub mod Running
+pub mod OldOrNew
+pub mod Crashes
