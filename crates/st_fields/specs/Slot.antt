@@ -1,5 +1,5 @@
 -- A slot: a head of 64 bytes, whose seal covers its other fields and the body, and then the body.
-use Rattle.std.specs.Prelude.{◌≡◌, ℕ, ◌+◌, ◌-◌, ◌*◌, ◌/◌, ◌%◌, ◌^◌, ◌≤◌, Bool, ◌&&◌, nat_le, nat_eq, List, ◌++◌, length, take, drop, replicate, Option, Some, None, if◌then◌else◌}
+use Rattle.std.specs.Prelude.{◌≡◌, ◌≢◌, ℕ, ◌+◌, ◌-◌, ◌*◌, ◌/◌, ◌%◌, ◌^◌, ◌≤◌, Bool, ◌&&◌, nat_le, nat_eq, List, ◌++◌, length, take, drop, replicate, Option, Some, None, if◌then◌else◌}
 use Rattle.std.specs.Str.{bytes_eq}
 use Rattle.st_fields.specs.Fields.{number_at, spelling, digest}
 
@@ -53,3 +53,12 @@ unfoldable pub slot_of : List ℕ → ℕ → List ℕ → Found
 slot_of magic place bytes =
     if (is_generation place (generation_in bytes) && bytes_eq (take (64 + length_in bytes) bytes) (slot_text magic (generation_in bytes) (body_in bytes)))
     then Some (generation_in bytes, body_in bytes) else None
+
+-- what the seal of a generation and a body covers
+abbrev pub message_of : List ℕ → ℕ × List ℕ → List ℕ
+message_of magic x = slot_fields magic x.0 (length x.1) ++ x.1
+
+-- two messages of one digest
+pub record Collides (a b : List ℕ) : Type 0 where
+  pub differ : a ≢ b
+  pub same : digest a ≡ digest b
