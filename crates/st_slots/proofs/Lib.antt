@@ -3,3 +3,4 @@ pub mod Records
 pub mod Running
 pub mod OldOrNew
 pub mod Crashes
+pub mod Greatest

@@ -1,5 +1,5 @@
 -- What the slots of a device read as.
-use Rattle.std.specs.Prelude.{◌≡◌, ◌≢◌, ℕ, ◌+◌, ◌*◌, ◌%◌, ◌^◌, ◌≤◌, Bool, nat_lt, nat_eq, List, ◌++◌, take, drop, Some, None, if◌then◌else◌}
+use Rattle.std.specs.Prelude.{◌≡◌, ◌≢◌, ℕ, ◌+◌, ◌*◌, ◌%◌, ◌^◌, ◌<◌, ◌≤◌, Bool, nat_lt, nat_eq, List, ◌++◌, take, drop, Some, None, if◌then◌else◌}
 use Rattle.std.specs.Str.{bytes_eq}
 use Rattle.st_fields.specs.Fields.{digest}
 use Rattle.st_fields.specs.Slot.{Found, slot_fields, slot_of}
@@ -61,3 +61,10 @@ pub record IsRead {D : Type 0} (devs : D → Devices) (moment : D → ℕ) (stat
   pub spares : spare new ≡ spare old
   pub counted : Rose (reads old dev) (reads new dev)
   pub others : (p : Path) → p ≢ dev → reads new p ≡ reads old p
+
+-- One of the two slots is valid and holds this record, and no valid slot has a greater generation.
+pub record IsNewest (area : Area) (device : Content) (x : ℕ × List ℕ) : Type 0 where
+  pub place : ℕ
+  pub of_two : place < 2
+  pub holds : read_slot area place device ≡ Some x
+  pub greatest : (r : ℕ) (y : ℕ × List ℕ) → r < 2 → read_slot area r device ≡ Some y → y.0 ≤ x.0

@@ -6,6 +6,8 @@ mod read;
 mod spot;
 mod write;
 
+pub mod laws;
+
 pub use read::{at_generation, newest};
 pub use spot::{Area, SlotFault};
 pub use write::write_next;
