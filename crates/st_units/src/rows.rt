@@ -64,6 +64,21 @@ pub struct FsRow {
     pub origin: Option<u64>,
 }
 
+impl FsRow {
+    /// The same row once more.
+    pub fn copy(&self) -> Result<FsRow, NoMemory>
+        ensures { IfOk result (λ row. row ≡ self.now) }
+    {
+        Ok(FsRow {
+            serial: self.serial,
+            name: self.name.copy()?,
+            size: self.size,
+            limit: self.limit,
+            origin: self.origin,
+        })
+    }
+}
+
 /// A filesystem that is to be created.
 #[derive(Drop)]
 pub struct FsSpec {

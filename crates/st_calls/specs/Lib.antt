@@ -1,0 +1,5 @@
+pub mod Form
+
+pub mod Gives
+
+pub mod Names

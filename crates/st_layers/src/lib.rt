@@ -1,0 +1,5 @@
+//! Tests over all of the crates below.
+#![tactic(auto)]
+
+#[cfg(test)]
+mod lines;

@@ -1,0 +1,4 @@
+pub mod Causes
+pub mod GiveBack
+pub mod Lines
+pub mod Spans

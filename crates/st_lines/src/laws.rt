@@ -1,0 +1,8 @@
+ghost use Rattle.st_lines.specs.GiveBack.{LinesAreBare, LinesGiveBack};
+
+/// The lines of a text, each with an LF behind it, are the text, but that a last line may have
+/// had none; and no line has an LF in it.
+pub fn lines_give_back()
+    ensures whole { LinesGiveBack }
+    ensures bare { LinesAreBare }
+{}

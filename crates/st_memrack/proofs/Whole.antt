@@ -1,0 +1,60 @@
+-- The rack without faults, as its past and its list.
+use Rattle.std.proofs.Common.{◌≡◌, ◌≢◌, inl, inr, ℕ, ◌+◌, ◌-◌, ◌^◌, ◌<◌, ◌≤◌, min, Bool, true, false, IsNone, List, length, get_or, slice_set, refl, sym, ◌∙◌, ap, subst, arith}
+use Rattle.st_rack.specs.Story.{Settled}
+use Rattle.st_rack.specs.Device.{Path, DevState, State, Synced, Settling, Cut}
+use Rattle.st_rack.specs.Moments.{Goes, OnDevice}
+use Rattle.st_rack.specs.Calls.{Rises, Rose, Has, sectors_of}
+use Rattle.st_rack.proofs.Look.{has_or_not}
+use Rattle.st_slabs.specs.Shelf.{look, rows_of, state_in, is_in, no_device, IsFirst}
+use Rattle.st_slabs.specs.Past.{depth, was}
+use Rattle.st_slabs.specs.declared.past.Past.{Past}
+use Rattle.st_slabs.proofs.Look.{first_path, look_first, look_set_same, not_in}
+use Rattle.st_slabs.proofs.Change.{was_now}
+use Rattle.st_memrack.specs.Slab.{slab_path, slab_size, slab_state}
+use Rattle.st_memrack.specs.Blank.{IsSettled}
+use Rattle.st_memrack.specs.declared.slab.Slab.{Slab}
+use Rattle.st_memrack.specs.declared.nofault.NoFaultRack.{NoFaultRack}
+
+abbrev pub past_of : NoFaultRack → Past Slab
+past_of r = r.past.value
+
+abbrev pub list_of : NoFaultRack → List Slab
+list_of r = r.slabs.items
+
+-- the state now, as the clock tells it
+abbrev pub now_of : Past Slab → List Slab → State
+now_of past l = was slab_path slab_state past (state_in slab_path slab_state l) (depth past)
+
+pub now_is : (past : Past Slab) (l : List Slab) → now_of past l ≡ state_in slab_path slab_state l
+now_is past l = λ i p. was_now slab_path slab_state past (state_in slab_path slab_state l) p i
+
+pub both_now : (one two : Past Slab) (a b : List Slab) (step : State → State → Type 0) → step (state_in slab_path slab_state a) (state_in slab_path slab_state b) → step (now_of one a) (now_of two b)
+both_now one two a b step h =
+    subst (λ (s : State). step s (now_of two b)) (sym (now_is one a))
+    (subst (λ (s : State). step (state_in slab_path slab_state a) s) (sym (now_is two b)) h)
+
+-- what a change of one device makes of it
+pub set_state : (past : Past Slab) (l : List Slab) (dev : Path) (i : ℕ) (v : Slab) → IsFirst slab_path l dev i → slab_path v ≡ dev → now_of past (slice_set l i v) dev ≡ slab_state v
+set_state past l dev i v first same = was_now slab_path slab_state past (state_in slab_path slab_state (slice_set l i v)) dev ∙ look_set_same slab_path slab_state no_device l dev i v first same
+
+pub first_state : (past : Past Slab) (l : List Slab) (dev : Path) (i : ℕ) (d : Slab) → IsFirst slab_path l dev i → now_of past l dev ≡ slab_state (get_or l i d)
+first_state past l dev i d first = was_now slab_path slab_state past (state_in slab_path slab_state l) dev ∙ look_first slab_path slab_state no_device l dev i d first
+
+pub synced_settles : (a b : DevState) → Synced a b → Settling a b
+synced_settles a b h = record { same = h.same; told = inr h.told }
+
+pub settled_cut : (a b : Slab) → IsSettled a b → Cut (slab_state a) (slab_state b)
+settled_cut a b h = record {
+  left = λ i sure. ap (λ (f : ℕ → ℕ). f i) h.synced.same;
+  told = h.synced.told ∙ ap (λ (f : ℕ → ℕ). Settled f (slab_state a).story) (sym h.synced.same);
+}
+
+pub rose_by : (a b : ℕ) → b ≡ min (a + 1) (2 ^ 64 - 1) → Rose a b
+rose_by a b is = subst (λ (n : ℕ). min (a + 1) (2 ^ 64 - 1) ≤ n) (sym is) (omega arith)
+
+-- the racks have no path in common
+pub apart_in : (own others : List Slab) → ((p : Path) (n : ℕ) → Has (rows_of slab_path slab_size others) p n → IsNone (sectors_of (rows_of slab_path slab_size own) p)) → (p : Path) → is_in slab_path others p ≡ true → is_in slab_path own p ≡ false
+apart_in own others apart p there = elim (has_or_not (rows_of slab_path slab_size others) p) [
+  | inl has ↦ not_in slab_path slab_size own p (apart p has.0 has.1)
+  | inr none ↦ absurd (let out = not_in slab_path slab_size others p none in cc)
+]

@@ -1,0 +1,3 @@
+pub mod CreatePool
+
+pub mod EngineStateReport

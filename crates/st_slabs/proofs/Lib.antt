@@ -1,0 +1,10 @@
+pub mod Order
+
+pub mod Look
+
+pub mod Leave
+
+pub mod Come
+
+pub mod Change
+

@@ -1,0 +1,5 @@
+pub mod Shelf
+
+pub mod Past
+
+pub mod Told

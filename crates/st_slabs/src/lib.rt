@@ -1,0 +1,12 @@
+//! Devices in order of their paths, with every state that they have had, for racks to stand on.
+#![tactic(auto)]
+
+mod device;
+mod past;
+mod shelf;
+mod told;
+
+pub use device::Device;
+pub use past::{copied, remember, remember_joined, Past};
+pub use shelf::{find, first_of, insert, take_in, take_out};
+pub use told::{tell_settled, tell_write, Text, Told};
