@@ -2,18 +2,27 @@
 use Rattle.std.proofs.Common.{◌≡◌, inl, inr, ℕ, ◌+◌, ◌*◌, ◌/◌, ◌%◌, ◌<◌, ◌≤◌, Result, Ok, Err, OnOk, List, length, refl, sym, ◌∙◌, ap, subst, arith}
 use Rattle.std.proofs.Math.Nat.{mul-le-mul_right}
 use Rattle.st_fields.specs.Slot.{padded}
-use Rattle.st_rack.specs.Story.{Content, Story, Wrote, Settled}
+use Rattle.st_rack.specs.Story.{Content, Story, Wrote, Settled, Grows}
 use Rattle.st_rack.specs.Device.{Path, DevState, State, Touched, Written, Settling, Synced, cells}
 use Rattle.st_rack.specs.Steps.{Rewriting, Rewritten, LeavesOutside}
 use Rattle.st_rack.specs.Calls.{Devices, IsWithin}
 use Rattle.st_rack.specs.Moments.{LeftSince, Goes, OnDevice}
 use Rattle.st_rack.proofs.Moments.{goes_on, at_end, left_in, goes_weak}
 use Rattle.st_rack.proofs.Outside.{changed_self, touched_changes, settling_changes, changed_both, crash_outside}
+use Rattle.st_rack.proofs.Growth.{grows_self}
 use Rattle.st_slots.specs.Places.{Lies}
 use Rattle.st_slots.specs.declared.spot.Area.{Area}
 
 pub rewriting_self : (at : ℕ) (bytes : List ℕ) (a : DevState) → Rewriting at bytes a a
 rewriting_self at bytes a = record { changed = changed_self at (length bytes) a; told = inl refl }
+
+-- What the device was told only grows.
+pub rewriting_grows : (at : ℕ) (bytes : List ℕ) (a b : DevState) → Rewriting at bytes a b → Grows a.story b.story
+rewriting_grows at bytes a b step = elim step.told [
+  | inl same ↦ subst (λ (y : Story). Grows a.story y) (sym same) (grows_self a.story)
+  | inr (inl wrote) ↦ subst (λ (y : Story). Grows a.story y) (sym wrote) (inr (grows_self a.story))
+  | inr (inr settled) ↦ subst (λ (y : Story). Grows a.story y) (sym settled.0) (inr (inr (grows_self a.story)))
+]
 
 touched_rewriting : (at : ℕ) (bytes : List ℕ) (a b : DevState) → Touched at bytes a b → Rewriting at bytes a b
 touched_rewriting at bytes a b step = record { changed = touched_changes at bytes a b step; told = inr (inl step.told) }
