@@ -6,4 +6,6 @@ mod grants;
 #[cfg(test)]
 mod lines;
 #[cfg(test)]
+mod slots;
+#[cfg(test)]
 mod turn;

@@ -1,0 +1,13 @@
+//! A record in two slots on a device, of which the older is written next.
+#![tactic(auto)]
+
+mod head;
+mod read;
+mod spot;
+mod write;
+
+pub mod laws;
+
+pub use read::{at_generation, newest};
+pub use spot::{Area, SlotFault};
+pub use write::write_next;
