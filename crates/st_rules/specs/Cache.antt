@@ -1,5 +1,5 @@
 -- the cache list: the numbers of the cached cells, the one used last first
-use Rattle.std.specs.Prelude.{ℕ, ◌+◌, ◌-◌, ◌^◌, min, Bool, not, List, [], ◌∷◌, take, nat_eq, filter, slice_get, Option, None, if◌then◌else◌}
+use Rattle.std.specs.Prelude.{◌≡◌, false, ℕ, ◌+◌, ◌-◌, ◌^◌, min, Bool, not, List, [], ◌∷◌, take, nat_eq, filter, slice_get, Option, None, if◌then◌else◌}
 use Rattle.std.specs.List.{list_any}
 
 -- whether the number stands in the list
@@ -9,6 +9,11 @@ has x xs = list_any (nat_eq x) xs
 -- the list without the number
 abbrev pub without : ℕ → List ℕ → List ℕ
 without x xs = filter (λ y. not (nat_eq x y)) xs
+
+-- no number stands twice in the list
+abbrev pub AreDistinct : List ℕ → Type 0
+AreDistinct [] = Unit {0}
+AreDistinct (x ∷ xs) = (has x xs ≡ false) × AreDistinct xs
 
 -- a read: the cell goes to the front, and the last falls out where the list would be longer than the capacity
 abbrev pub touched : ℕ → ℕ → List ℕ → List ℕ

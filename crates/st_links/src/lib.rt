@@ -1,0 +1,2 @@
+//! Lists linked by index.
+#![tactic(auto)]
