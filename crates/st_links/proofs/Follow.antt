@@ -2,17 +2,8 @@
 use Rattle.std.proofs.Common.{◌≡◌, ℕ, ◌<◌, Bool, true, false, not, List, [], ◌∷◌, ◌++◌, length, cond, eqb, ◌⊎◌, inl, inr, refl, sym, ◌∙◌, ap, subst}
 use Rattle.std.proofs.lemmas.Bool.{cases_eq, eq-eqb, ne_eqb, or_left, cond-true, cond-false, false≢true, both_ways, false_from_ne_true}
 use Rattle.st_rules.specs.Cache.{has, without, AreDistinct}
+use Rattle.st_links.specs.Ring.{first_or, follower}
 use Rattle.st_rules.proofs.Members.{has_head, has_tail, has_cases, lacks_parts, lacks_from, differ_by_list, without_here, without_there, without_absent}
-
--- the first item, or d where there is none
-abbrev pub first_or : ℕ → List ℕ → ℕ
-first_or d [] = d
-first_or d (x ∷ xs) = x
-
--- what stands behind y, or d behind the last
-abbrev pub follower : ℕ → List ℕ → ℕ → ℕ
-follower d [] y = d
-follower d (x ∷ xs) y = cond (eqb y x) (first_or d xs) (follower d xs y)
 
 pub follower_here : (d x : ℕ) (xs : List ℕ) → follower d (x ∷ xs) x ≡ first_or d xs
 follower_here d x xs = cond-true (eqb x x) (first_or d xs) (follower d xs x) (eq-eqb x x refl)

@@ -1,0 +1,47 @@
+-- how the arrays of `Links` stand for an arena: each list is a ring through a sentinel of its own, which is a node past the places
+use Rattle.std.specs.Prelude.{◌≡◌, ℕ, suc, zero, ◌+◌, ◌<◌, true, false, nat_eq, List, [], ◌∷◌, length, slice_index, if◌then◌else◌}
+use Rattle.st_rules.specs.Cache.{has, AreDistinct}
+use Rattle.st_links.specs.Arena.{row, is_linked}
+
+-- the first item, or d where there is none
+abbrev pub first_or : ℕ → List ℕ → ℕ
+first_or d [] = d
+first_or d (x ∷ xs) = x
+
+-- what stands behind y, or d behind the last
+abbrev pub follower : ℕ → List ℕ → ℕ → ℕ
+follower d [] y = d
+follower d (x ∷ xs) y = if nat_eq y x then first_or d xs else follower d xs y
+
+-- the arrays, which have m items, hold the ring d ∷ xs of list l
+pub record Ring (nx pv hm : List ℕ) (m l d : ℕ) (xs : List ℕ) : Type 0 where
+  -- its nodes know their list
+  pub inside : (y : ℕ) → has y (d ∷ xs) ≡ true → (y < m) × (slice_index hm y ≡ l)
+  pub once : AreDistinct (d ∷ xs)
+  -- each node names the one behind it, which names it
+  pub forth : (y : ℕ) → has y (d ∷ xs) ≡ true → slice_index nx y ≡ follower d (d ∷ xs) y
+  pub back : (y : ℕ) → has y (d ∷ xs) ≡ true → slice_index pv (slice_index nx y) ≡ y
+
+-- the nodes from y on until d comes, `most` at most
+abbrev pub walk : List ℕ → ℕ → ℕ → ℕ → List ℕ
+walk nx d zero y = []
+walk nx d (suc most) y = if nat_eq y d then [] else y ∷ walk nx d most (slice_index nx y)
+
+-- the lists from l on, `count` of them, with n places
+abbrev pub rows_from : List ℕ → ℕ → ℕ → ℕ → List (List ℕ)
+rows_from nx n l zero = []
+rows_from nx n l (suc count) = walk nx (n + l) n (slice_index nx (n + l)) ∷ rows_from nx n (suc l) count
+
+abbrev pub rows : List ℕ → ℕ → ℕ → List (List ℕ)
+rows nx n count = rows_from nx n 0 count
+
+-- the arrays stand for these lists over n places
+pub record Tied (nx pv hm : List ℕ) (n : ℕ) (lists : List (List ℕ)) : Type 0 where
+  pub long_next : n + length lists ≡ length nx
+  pub long_prev : n + length lists ≡ length pv
+  pub long_home : n + length lists ≡ length hm
+  pub rings : (l : ℕ) → l < length lists → Ring nx pv hm (n + length lists) l (n + l) (row lists l)
+  -- the lists have places
+  pub small : (l y : ℕ) → l < length lists → has y (row lists l) ≡ true → y < n
+  -- a place that names a list stands in it
+  pub held : (p : ℕ) → p < n → slice_index hm p < length lists → has p (row lists (slice_index hm p)) ≡ true
