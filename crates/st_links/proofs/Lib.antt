@@ -1,2 +1,4 @@
 pub mod Follow
 pub mod Rings
+pub mod Rows
+pub mod Moves

@@ -35,13 +35,17 @@ rows_from nx n l (suc count) = walk nx (n + l) n (slice_index nx (n + l)) ∷ ro
 abbrev pub rows : List ℕ → ℕ → ℕ → List (List ℕ)
 rows nx n count = rows_from nx n 0 count
 
--- the arrays stand for these lists over n places
-pub record Tied (nx pv hm : List ℕ) (n : ℕ) (lists : List (List ℕ)) : Type 0 where
-  pub long_next : n + length lists ≡ length nx
-  pub long_prev : n + length lists ≡ length pv
-  pub long_home : n + length lists ≡ length hm
-  pub rings : (l : ℕ) → l < length lists → Ring nx pv hm (n + length lists) l (n + l) (row lists l)
+-- the arrays hold the rings of these lists, `count` of them, over n places
+pub record Linked (nx pv hm : List ℕ) (n count : ℕ) (lists : List (List ℕ)) : Type 0 where
+  pub long_next : n + count ≡ length nx
+  pub long_prev : n + count ≡ length pv
+  pub long_home : n + count ≡ length hm
+  pub counted : length lists ≡ count
+  pub rings : (l : ℕ) → l < count → Ring nx pv hm (n + count) l (n + l) (row lists l)
   -- the lists have places
-  pub small : (l y : ℕ) → l < length lists → has y (row lists l) ≡ true → y < n
-  -- a place that names a list stands in it
-  pub held : (p : ℕ) → p < n → slice_index hm p < length lists → has p (row lists (slice_index hm p)) ≡ true
+  pub small : (l y : ℕ) → l < count → has y (row lists l) ≡ true → y < n
+
+-- and a place that names a list stands in it
+pub record Tied (nx pv hm : List ℕ) (n count : ℕ) (lists : List (List ℕ)) : Type 0 where
+  pub linked : Linked nx pv hm n count lists
+  pub held : (p : ℕ) → p < n → slice_index hm p < count → has p (row lists (slice_index hm p)) ≡ true
