@@ -20,20 +20,20 @@ follower_in d y [] = inl refl
 follower_in d y (x ∷ xs) =
     let P : ℕ → Type 0 = λ (z : ℕ). (z ≡ d) ⊎ (has z (x ∷ xs) ≡ true) in
     elim (cases_eq y x) [
-      inl e ↦
-        let here : P (first_or d xs) = elim (first_or_in d xs) as (λ _. P (first_or d xs)) [ inl q ↦ inl q | inr t ↦ inr (has_tail (first_or d xs) x xs t) ] in
-        subst P (sym (cond-true (eqb y x) (first_or d xs) (follower d xs y) (eq-eqb y x e))) here
-    | inr ne ↦
-        let there : P (follower d xs y) = elim (follower_in d y xs) as (λ _. P (follower d xs y)) [ inl q ↦ inl q | inr t ↦ inr (has_tail (follower d xs y) x xs t) ] in
-        subst P (sym (follower_there d x y xs ne)) there
+      | inl e ↦
+          let here : P (first_or d xs) = elim (first_or_in d xs) as (λ _. P (first_or d xs)) [ inl q ↦ inl q | inr t ↦ inr (has_tail (first_or d xs) x xs t) ] in
+          subst P (sym (cond-true (eqb y x) (first_or d xs) (follower d xs y) (eq-eqb y x e))) here
+      | inr ne ↦
+          let there : P (follower d xs y) = elim (follower_in d y xs) as (λ _. P (follower d xs y)) [ inl q ↦ inl q | inr t ↦ inr (has_tail (follower d xs y) x xs t) ] in
+          subst P (sym (follower_there d x y xs ne)) there
     ]
 
 -- nothing but what stands in the list, and d, follows
 pub follower_not : (d p y : ℕ) (r : List ℕ) → (p ≡ d → ⊥) → has p r ≡ false → follower d r y ≡ p → ⊥
 follower_not d p y r ne lacks e =
     elim (follower_in d y r) [
-      inl q ↦ ne (sym e ∙ q)
-    | inr t ↦ both_ways (has p r) lacks (sym (ap (λ (z : ℕ). has z r) e) ∙ t)
+      | inl q ↦ ne (sym e ∙ q)
+      | inr t ↦ both_ways (has p r) lacks (sym (ap (λ (z : ℕ). has z r) e) ∙ t)
     ]
 
 -- p is taken out: what p followed is followed by what followed p
@@ -41,20 +41,20 @@ pub follower-without_at : (d p y : ℕ) (r : List ℕ) → AreDistinct r → (p 
 follower-without_at d p y [] dist ne yp h e = absurd (false≢true h)
 follower-without_at d p y (x ∷ xs) dist ne yp h e =
     elim (cases_eq p x) [
-      inl px ↦
-        let lacks : has p xs ≡ false = subst (λ (z : ℕ). has z xs ≡ false) (sym px) dist.0 in
-        absurd (follower_not d p y xs ne lacks (sym (follower_there d x y xs (λ (q : y ≡ x). yp (q ∙ sym px))) ∙ e))
-    | inr px ↦
-        let rest : follower d (x ∷ xs) p ≡ follower d xs p = follower_there d x p xs px in
-        let left : follower d (without p (x ∷ xs)) y ≡ follower d (x ∷ without p xs) y = ap (λ (zs : List ℕ). follower d zs y) (without_there p x xs px) in
-        elim (cases_eq y x) [
-          inl yx ↦
-            let first : first_or d xs ≡ p = sym (cond-true (eqb y x) (first_or d xs) (follower d xs y) (eq-eqb y x yx)) ∙ e in
-            left ∙ cond-true (eqb y x) (first_or d (without p xs)) (follower d (without p xs) y) (eq-eqb y x yx) ∙ first_gone d p xs ne dist.1 first ∙ sym rest
-        | inr yx ↦
-            let t : has y xs ≡ true = elim (has_cases y x xs h) [ inl q ↦ absurd (yx q) | inr t ↦ t ] in
-            left ∙ follower_there d x y (without p xs) yx ∙ follower-without_at d p y xs dist.1 ne yp t (sym (follower_there d x y xs yx) ∙ e) ∙ sym rest
-        ]
+      | inl px ↦
+          let lacks : has p xs ≡ false = subst (λ (z : ℕ). has z xs ≡ false) (sym px) dist.0 in
+          absurd (follower_not d p y xs ne lacks (sym (follower_there d x y xs (λ (q : y ≡ x). yp (q ∙ sym px))) ∙ e))
+      | inr px ↦
+          let rest : follower d (x ∷ xs) p ≡ follower d xs p = follower_there d x p xs px in
+          let left : follower d (without p (x ∷ xs)) y ≡ follower d (x ∷ without p xs) y = ap (λ (zs : List ℕ). follower d zs y) (without_there p x xs px) in
+          elim (cases_eq y x) [
+            | inl yx ↦
+                let first : first_or d xs ≡ p = sym (cond-true (eqb y x) (first_or d xs) (follower d xs y) (eq-eqb y x yx)) ∙ e in
+                left ∙ cond-true (eqb y x) (first_or d (without p xs)) (follower d (without p xs) y) (eq-eqb y x yx) ∙ first_gone d p xs ne dist.1 first ∙ sym rest
+            | inr yx ↦
+                let t : has y xs ≡ true = elim (has_cases y x xs h) [ inl q ↦ absurd (yx q) | inr t ↦ t ] in
+                left ∙ follower_there d x y (without p xs) yx ∙ follower-without_at d p y xs dist.1 ne yp t (sym (follower_there d x y xs yx) ∙ e) ∙ sym rest
+          ]
     ]
   where
     first_gone : (d p : ℕ) (xs : List ℕ) → (p ≡ d → ⊥) → AreDistinct xs → first_or d xs ≡ p → first_or d (without p xs) ≡ follower d xs p
@@ -69,19 +69,19 @@ pub follower-without : (d p y : ℕ) (r : List ℕ) → AreDistinct r → (y ≡
 follower-without d p y [] dist yp ne = refl
 follower-without d p y (x ∷ xs) dist yp ne =
     elim (cases_eq p x) [
-      inl px ↦
-        let lacks : has p xs ≡ false = subst (λ (z : ℕ). has z xs ≡ false) (sym px) dist.0 in
-        ap (λ (zs : List ℕ). follower d zs y) (subst (λ (w : ℕ). without p (w ∷ xs) ≡ without p xs) px (without_here p xs) ∙ without_absent p xs lacks)
-        ∙ sym (follower_there d x y xs (λ (q : y ≡ x). yp (q ∙ sym px)))
-    | inr px ↦
-        let left : follower d (without p (x ∷ xs)) y ≡ follower d (x ∷ without p xs) y = ap (λ (zs : List ℕ). follower d zs y) (without_there p x xs px) in
-        elim (cases_eq y x) [
-          inl yx ↦
-            let here : follower d (x ∷ xs) y ≡ first_or d xs = cond-true (eqb y x) (first_or d xs) (follower d xs y) (eq-eqb y x yx) in
-            left ∙ cond-true (eqb y x) (first_or d (without p xs)) (follower d (without p xs) y) (eq-eqb y x yx) ∙ first_kept d p xs (λ (q : first_or d xs ≡ p). ne (here ∙ q)) ∙ sym here
-        | inr yx ↦
-            left ∙ follower_there d x y (without p xs) yx ∙ follower-without d p y xs dist.1 yp (λ (q : follower d xs y ≡ p). ne (follower_there d x y xs yx ∙ q)) ∙ sym (follower_there d x y xs yx)
-        ]
+      | inl px ↦
+          let lacks : has p xs ≡ false = subst (λ (z : ℕ). has z xs ≡ false) (sym px) dist.0 in
+          ap (λ (zs : List ℕ). follower d zs y) (subst (λ (w : ℕ). without p (w ∷ xs) ≡ without p xs) px (without_here p xs) ∙ without_absent p xs lacks)
+          ∙ sym (follower_there d x y xs (λ (q : y ≡ x). yp (q ∙ sym px)))
+      | inr px ↦
+          let left : follower d (without p (x ∷ xs)) y ≡ follower d (x ∷ without p xs) y = ap (λ (zs : List ℕ). follower d zs y) (without_there p x xs px) in
+          elim (cases_eq y x) [
+            | inl yx ↦
+                let here : follower d (x ∷ xs) y ≡ first_or d xs = cond-true (eqb y x) (first_or d xs) (follower d xs y) (eq-eqb y x yx) in
+                left ∙ cond-true (eqb y x) (first_or d (without p xs)) (follower d (without p xs) y) (eq-eqb y x yx) ∙ first_kept d p xs (λ (q : first_or d xs ≡ p). ne (here ∙ q)) ∙ sym here
+            | inr yx ↦
+                left ∙ follower_there d x y (without p xs) yx ∙ follower-without d p y xs dist.1 yp (λ (q : follower d xs y ≡ p). ne (follower_there d x y xs yx ∙ q)) ∙ sym (follower_there d x y xs yx)
+          ]
     ]
   where
     first_kept : (d p : ℕ) (xs : List ℕ) → (first_or d xs ≡ p → ⊥) → first_or d (without p xs) ≡ first_or d xs
@@ -109,10 +109,10 @@ pub follower-inserted_before : (d a p : ℕ) (r : List ℕ) → has a r ≡ true
 follower-inserted_before d a p [] h = absurd (false≢true h)
 follower-inserted_before d a p (x ∷ xs) h =
     elim (cases_eq a x) [
-      inl e ↦ ap (λ (zs : List ℕ). follower d zs a) (inserted_here a p x xs e) ∙ cond-true (eqb a x) p (follower d (p ∷ xs) a) (eq-eqb a x e)
-    | inr ne ↦
-        let t : has a xs ≡ true = elim (has_cases a x xs h) [ inl q ↦ absurd (ne q) | inr t ↦ t ] in
-        ap (λ (zs : List ℕ). follower d zs a) (inserted_there a p x xs ne) ∙ follower_there d x a (inserted a p xs) ne ∙ follower-inserted_before d a p xs t
+      | inl e ↦ ap (λ (zs : List ℕ). follower d zs a) (inserted_here a p x xs e) ∙ cond-true (eqb a x) p (follower d (p ∷ xs) a) (eq-eqb a x e)
+      | inr ne ↦
+          let t : has a xs ≡ true = elim (has_cases a x xs h) [ inl q ↦ absurd (ne q) | inr t ↦ t ] in
+          ap (λ (zs : List ℕ). follower d zs a) (inserted_there a p x xs ne) ∙ follower_there d x a (inserted a p xs) ne ∙ follower-inserted_before d a p xs t
     ]
 
 -- p is followed by what followed a
@@ -121,17 +121,17 @@ follower-inserted_at d a p [] h lacks = absurd (false≢true h)
 follower-inserted_at d a p (x ∷ xs) h lacks =
     let parts = lacks_parts p x xs lacks in
     elim (cases_eq a x) [
-      inl e ↦
-        ap (λ (zs : List ℕ). follower d zs p) (inserted_here a p x xs e)
-        ∙ follower_there d x p (p ∷ xs) parts.0
-        ∙ follower_here d p xs
-        ∙ sym (cond-true (eqb a x) (first_or d xs) (follower d xs a) (eq-eqb a x e))
-    | inr ne ↦
-        let t : has a xs ≡ true = elim (has_cases a x xs h) [ inl q ↦ absurd (ne q) | inr t ↦ t ] in
-        ap (λ (zs : List ℕ). follower d zs p) (inserted_there a p x xs ne)
-        ∙ follower_there d x p (inserted a p xs) parts.0
-        ∙ follower-inserted_at d a p xs t parts.1
-        ∙ sym (follower_there d x a xs ne)
+      | inl e ↦
+          ap (λ (zs : List ℕ). follower d zs p) (inserted_here a p x xs e)
+          ∙ follower_there d x p (p ∷ xs) parts.0
+          ∙ follower_here d p xs
+          ∙ sym (cond-true (eqb a x) (first_or d xs) (follower d xs a) (eq-eqb a x e))
+      | inr ne ↦
+          let t : has a xs ≡ true = elim (has_cases a x xs h) [ inl q ↦ absurd (ne q) | inr t ↦ t ] in
+          ap (λ (zs : List ℕ). follower d zs p) (inserted_there a p x xs ne)
+          ∙ follower_there d x p (inserted a p xs) parts.0
+          ∙ follower-inserted_at d a p xs t parts.1
+          ∙ sym (follower_there d x a xs ne)
     ]
 
 -- every other place has its follower
@@ -139,39 +139,39 @@ pub follower-inserted : (d a p y : ℕ) (r : List ℕ) → (y ≡ a → ⊥) →
 follower-inserted d a p y [] ya yp = refl
 follower-inserted d a p y (x ∷ xs) ya yp =
     elim (cases_eq a x) [
-      inl e ↦
-        let yx : y ≡ x → ⊥ = λ (q : y ≡ x). ya (q ∙ sym e) in
-        ap (λ (zs : List ℕ). follower d zs y) (inserted_here a p x xs e)
-        ∙ follower_there d x y (p ∷ xs) yx
-        ∙ follower_there d p y xs yp
-        ∙ sym (follower_there d x y xs yx)
-    | inr ne ↦
-        let left = ap (λ (zs : List ℕ). follower d zs y) (inserted_there a p x xs ne) in
-        elim (cases_eq y x) [
-          inl yx ↦
-            left
-            ∙ cond-true (eqb y x) (first_or d (inserted a p xs)) (follower d (inserted a p xs) y) (eq-eqb y x yx)
-            ∙ first_or-inserted d a p xs
-            ∙ sym (cond-true (eqb y x) (first_or d xs) (follower d xs y) (eq-eqb y x yx))
-        | inr yx ↦
-            left ∙ follower_there d x y (inserted a p xs) yx ∙ follower-inserted d a p y xs ya yp ∙ sym (follower_there d x y xs yx)
-        ]
+      | inl e ↦
+          let yx : y ≡ x → ⊥ = λ (q : y ≡ x). ya (q ∙ sym e) in
+          ap (λ (zs : List ℕ). follower d zs y) (inserted_here a p x xs e)
+          ∙ follower_there d x y (p ∷ xs) yx
+          ∙ follower_there d p y xs yp
+          ∙ sym (follower_there d x y xs yx)
+      | inr ne ↦
+          let left = ap (λ (zs : List ℕ). follower d zs y) (inserted_there a p x xs ne) in
+          elim (cases_eq y x) [
+            | inl yx ↦
+                left
+                ∙ cond-true (eqb y x) (first_or d (inserted a p xs)) (follower d (inserted a p xs) y) (eq-eqb y x yx)
+                ∙ first_or-inserted d a p xs
+                ∙ sym (cond-true (eqb y x) (first_or d xs) (follower d xs y) (eq-eqb y x yx))
+            | inr yx ↦
+                left ∙ follower_there d x y (inserted a p xs) yx ∙ follower-inserted d a p y xs ya yp ∙ sym (follower_there d x y xs yx)
+          ]
     ]
 
 pub has_of_inserted : (a p y : ℕ) (r : List ℕ) → has y (inserted a p r) ≡ true → (y ≡ p) ⊎ (has y r ≡ true)
 has_of_inserted a p y [] h = inr h
 has_of_inserted a p y (x ∷ xs) h =
     elim (cases_eq a x) [
-      inl e ↦
-        elim (has_cases y x (p ∷ xs) (sym (ap (has y) (inserted_here a p x xs e)) ∙ h)) [
-          inl q ↦ inr (or_left (eqb y x) (has y xs) (eq-eqb y x q))
-        | inr t ↦ elim (has_cases y p xs t) [ inl q ↦ inl q | inr s ↦ inr (has_tail y x xs s) ]
-        ]
-    | inr ne ↦
-        elim (has_cases y x (inserted a p xs) (sym (ap (has y) (inserted_there a p x xs ne)) ∙ h)) [
-          inl q ↦ inr (or_left (eqb y x) (has y xs) (eq-eqb y x q))
-        | inr t ↦ elim (has_of_inserted a p y xs t) [ inl q ↦ inl q | inr s ↦ inr (has_tail y x xs s) ]
-        ]
+      | inl e ↦
+          elim (has_cases y x (p ∷ xs) (sym (ap (has y) (inserted_here a p x xs e)) ∙ h)) [
+            | inl q ↦ inr (or_left (eqb y x) (has y xs) (eq-eqb y x q))
+            | inr t ↦ elim (has_cases y p xs t) [ inl q ↦ inl q | inr s ↦ inr (has_tail y x xs s) ]
+          ]
+      | inr ne ↦
+          elim (has_cases y x (inserted a p xs) (sym (ap (has y) (inserted_there a p x xs ne)) ∙ h)) [
+            | inl q ↦ inr (or_left (eqb y x) (has y xs) (eq-eqb y x q))
+            | inr t ↦ elim (has_of_inserted a p y xs t) [ inl q ↦ inl q | inr s ↦ inr (has_tail y x xs s) ]
+          ]
     ]
 
 pub AreDistinct-inserted : (a p : ℕ) (r : List ℕ) → AreDistinct r → has p r ≡ false → AreDistinct (inserted a p r)
@@ -180,12 +180,12 @@ AreDistinct-inserted a p (x ∷ xs) dist lacks =
     let parts = lacks_parts p x xs lacks in
     let xp : x ≡ p → ⊥ = λ (q : x ≡ p). parts.0 (sym q) in
     elim (cases_eq a x) [
-      inl e ↦ subst AreDistinct (sym (inserted_here a p x xs e)) (lacks_from x p xs xp dist.0, (parts.1, dist.1))
-    | inr ne ↦
-        let front : has x (inserted a p xs) ≡ false =
-            false_from_ne_true (has x (inserted a p xs))
-            (λ (h : has x (inserted a p xs) ≡ true). elim (has_of_inserted a p x xs h) [ inl q ↦ xp q | inr t ↦ both_ways (has x xs) dist.0 t ]) in
-        subst AreDistinct (sym (inserted_there a p x xs ne)) (front, AreDistinct-inserted a p xs dist.1 parts.1)
+      | inl e ↦ subst AreDistinct (sym (inserted_here a p x xs e)) (lacks_from x p xs xp dist.0, (parts.1, dist.1))
+      | inr ne ↦
+          let front : has x (inserted a p xs) ≡ false =
+          false_from_ne_true (has x (inserted a p xs))
+          (λ (h : has x (inserted a p xs) ≡ true). elim (has_of_inserted a p x xs h) [ inl q ↦ xp q | inr t ↦ both_ways (has x xs) dist.0 t ]) in
+          subst AreDistinct (sym (inserted_there a p x xs ne)) (front, AreDistinct-inserted a p xs dist.1 parts.1)
     ]
 
 -- the last of a ring
@@ -217,18 +217,18 @@ leader_in x p [] = has_head x []
 leader_in x p (y ∷ ys) =
     let P : ℕ → Type 0 = λ (z : ℕ). has z (x ∷ y ∷ ys) ≡ true in
     elim (cases_eq p y) [
-      inl e ↦ subst P (sym (cond-true (eqb p y) x (leader y p ys) (eq-eqb p y e))) (has_head x (y ∷ ys))
-    | inr ne ↦ subst P (sym (cond-false (eqb p y) x (leader y p ys) (ne_eqb p y ne))) (has_tail (leader y p ys) x (y ∷ ys) (leader_in y p ys))
+      | inl e ↦ subst P (sym (cond-true (eqb p y) x (leader y p ys) (eq-eqb p y e))) (has_head x (y ∷ ys))
+      | inr ne ↦ subst P (sym (cond-false (eqb p y) x (leader y p ys) (ne_eqb p y ne))) (has_tail (leader y p ys) x (y ∷ ys) (leader_in y p ys))
     ]
 
 pub follower-leader : (d x p : ℕ) (xs : List ℕ) → AreDistinct (x ∷ xs) → has p xs ≡ true → follower d (x ∷ xs) (leader x p xs) ≡ p
 follower-leader d x p [] dist h = absurd (false≢true h)
 follower-leader d x p (y ∷ ys) dist h =
     elim (cases_eq p y) [
-      inl e ↦ ap (follower d (x ∷ y ∷ ys)) (cond-true (eqb p y) x (leader y p ys) (eq-eqb p y e)) ∙ follower_here d x (y ∷ ys) ∙ sym e
-    | inr ne ↦
-        let t : has p ys ≡ true = elim (has_cases p y ys h) [ inl q ↦ absurd (ne q) | inr t ↦ t ] in
-        ap (follower d (x ∷ y ∷ ys)) (cond-false (eqb p y) x (leader y p ys) (ne_eqb p y ne))
-        ∙ follower_there d x (leader y p ys) (y ∷ ys) (differ_by_list (leader y p ys) x (y ∷ ys) (leader_in y p ys) dist.0)
-        ∙ follower-leader d y p ys dist.1 t
+      | inl e ↦ ap (follower d (x ∷ y ∷ ys)) (cond-true (eqb p y) x (leader y p ys) (eq-eqb p y e)) ∙ follower_here d x (y ∷ ys) ∙ sym e
+      | inr ne ↦
+          let t : has p ys ≡ true = elim (has_cases p y ys h) [ inl q ↦ absurd (ne q) | inr t ↦ t ] in
+          ap (follower d (x ∷ y ∷ ys)) (cond-false (eqb p y) x (leader y p ys) (ne_eqb p y ne))
+          ∙ follower_there d x (leader y p ys) (y ∷ ys) (differ_by_list (leader y p ys) x (y ∷ ys) (leader_in y p ys) dist.0)
+          ∙ follower-leader d y p ys dist.1 t
     ]

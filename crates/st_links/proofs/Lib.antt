@@ -2,3 +2,5 @@ pub mod Follow
 pub mod Rings
 pub mod Rows
 pub mod Moves
+pub mod Ties
+pub mod Neighbours

@@ -6,17 +6,17 @@ use Rattle.std.proofs.lemmas.List.{get_or-set_other, get_or-set_same, length-set
 use Rattle.st_rules.specs.Cache.{has, without, promoted, AreDistinct}
 use Rattle.st_rules.proofs.Members.{has_head, has_tail, has_cases, lacks_from, has_of_without, has-without, lacks_itself, without_absent}
 use Rattle.st_links.specs.Arena.{row, is_linked, unlinked, fronted, pushed_front, pushed_back}
-use Rattle.st_links.specs.Ring.{Ring, Linked, Tied}
+use Rattle.st_links.specs.Ring.{Ring, Linked, Tied, put_next, put_prev}
 use Rattle.st_links.proofs.Follow.{inserted, inserted_here, inserted-last, has_of_inserted, last_from}
-use Rattle.st_links.proofs.Rings.{in_different, taken_out, kept_out, put_in, kept_in, homed, next_put, prev_put}
+use Rattle.st_links.proofs.Rings.{in_different, taken_out, kept_out, put_in, kept_in, homed}
 
 -- a place that is linked stands in a list of some number
 pub linked_in : (lists : List (List ℕ)) (p : ℕ) → is_linked lists p ≡ true → (l : ℕ) × (l < length lists) × (has p (row lists l) ≡ true)
 linked_in [] p h = absurd (false≢true h)
 linked_in (xs ∷ lists) p h =
     elim (or_cases (has p xs) (is_linked lists p) h) [
-      inl t ↦ (0, omega arith, t)
-    | inr t ↦ let rest = linked_in lists p t in (suc rest.0, omega (arith, rest.1), rest.2)
+      | inl t ↦ (0, omega arith, t)
+      | inr t ↦ let rest = linked_in lists p t in (suc rest.0, omega (arith, rest.1), rest.2)
     ]
 
 pub linked_from : (lists : List (List ℕ)) (p l : ℕ) → has p (row lists l) ≡ true → is_linked lists p ≡ true
@@ -27,10 +27,10 @@ linked_from (xs ∷ lists) p (suc l) h = or_right (has p xs) (is_linked lists p)
 pub lacks_in : (lists : List (List ℕ)) (p : ℕ) → is_linked lists p ≡ false → (l : ℕ) → has p (row lists l) ≡ false
 lacks_in lists p h l = false_from_ne_true (has p (row lists l)) (λ (t : has p (row lists l) ≡ true). both_ways (is_linked lists p) h (linked_from lists p l t))
 
-row-unlinked : (lists : List (List ℕ)) (p l : ℕ) → row (unlinked lists p) l ≡ without p (row lists l)
+pub row-unlinked : (lists : List (List ℕ)) (p l : ℕ) → row (unlinked lists p) l ≡ without p (row lists l)
 row-unlinked lists p l = get_or-map (without p) lists l []
 
-row-fronted : (lists : List (List ℕ)) (p l : ℕ) → row (fronted lists p) l ≡ promoted p (row lists l)
+pub row-fronted : (lists : List (List ℕ)) (p l : ℕ) → row (fronted lists p) l ≡ promoted p (row lists l)
 row-fronted lists p l = get_or-map (promoted p) lists l []
 
 -- a place stands in no ring where it stands in no list
@@ -43,7 +43,7 @@ module _ {nx pv hm : List ℕ} {n count : ℕ} {lists : List (List ℕ)} where
   lacks_other linked p k l bk bl h ne =
       false_from_ne_true (has p (row lists k))
       (λ (t : has p (row lists k) ≡ true).
-          in_different (linked.rings k bk) (linked.rings l bl) ne p (has_tail p (n + k) (row lists k) t) p (has_tail p (n + l) (row lists l) h) refl)
+      in_different (linked.rings k bk) (linked.rings l bl) ne p (has_tail p (n + k) (row lists k) t) p (has_tail p (n + l) (row lists l) h) refl)
 
   pub out : Linked nx pv hm n count lists → (p l : ℕ) → l < count → has p (row lists l) ≡ true → Linked (set nx (get_or pv p 0) (get_or nx p 0)) (set pv (get_or nx p 0) (get_or pv p 0)) hm n count (unlinked lists p)
   out linked p l below h =
@@ -58,11 +58,11 @@ module _ {nx pv hm : List ℕ} {n count : ℕ} {lists : List (List ℕ)} where
         rings = λ (k : ℕ) (bk : k < count).
             subst (RingOf k) (sym (row-unlinked lists p k))
             (elim (cases_eq k l) [
-              inl e ↦
-                taken_out (linked.rings k bk) linked.long_next linked.long_prev p (ap (λ (i : ℕ). has p (row lists i)) e ∙ h)
-            | inr ne ↦
-                subst (RingOf k) (sym (without_absent p (row lists k) (lacks_other linked p k l bk below h ne)))
-                (kept_out (linked.rings k bk) l (row lists l) (linked.rings l below) ne p h)
+              | inl e ↦
+                  taken_out (linked.rings k bk) linked.long_next linked.long_prev p (ap (λ (i : ℕ). has p (row lists i)) e ∙ h)
+              | inr ne ↦
+                  subst (RingOf k) (sym (without_absent p (row lists k) (lacks_other linked p k l bk below h ne)))
+                  (kept_out (linked.rings k bk) l (row lists l) (linked.rings l below) ne p h)
             ]);
         small = λ (k y : ℕ) (bk : k < count) (t : has y (row (unlinked lists p) k) ≡ true).
             linked.small k y bk (has_of_without y p (row lists k) (sym (ap (has y) (row-unlinked lists p k)) ∙ t)).0;
@@ -79,9 +79,9 @@ module _ {nx pv hm : List ℕ} {n count : ℕ} {lists : List (List ℕ)} where
   }
 
   -- a place that stands in no list is put behind node a of list l, which then is ys
-  pub into : Linked nx pv hm n count lists → (a p l : ℕ) (ys : List ℕ) → l < count → has a ((n + l) ∷ row lists l) ≡ true → p < n → ((k : ℕ) → has p (row lists k) ≡ false) → get_or hm p 0 ≡ l → inserted a p ((n + l) ∷ row lists l) ≡ (n + l) ∷ ys → Linked (next_put nx a p) (prev_put nx pv a p) hm n count (set lists l ys)
+  pub into : Linked nx pv hm n count lists → (a p l : ℕ) (ys : List ℕ) → l < count → has a ((n + l) ∷ row lists l) ≡ true → p < n → ((k : ℕ) → has p (row lists k) ≡ false) → get_or hm p 0 ≡ l → inserted a p ((n + l) ∷ row lists l) ≡ (n + l) ∷ ys → Linked (put_next nx a p) (put_prev nx pv a p) hm n count (set lists l ys)
   into linked a p l ys below ha bp lacks home ring_is =
-      let RingOf : ℕ → List ℕ → Type 0 = λ (k : ℕ) (xs : List ℕ). Ring (next_put nx a p) (prev_put nx pv a p) hm (n + count) k (n + k) xs in
+      let RingOf : ℕ → List ℕ → Type 0 = λ (k : ℕ) (xs : List ℕ). Ring (put_next nx a p) (put_prev nx pv a p) hm (n + count) k (n + k) xs in
       let ring = linked.rings l below in
       let row_same : row (set lists l ys) l ≡ ys = get_or-set_same lists l ys [] (subst (λ (i : ℕ). l < i) (sym linked.counted) below) in
       let row_other : (k : ℕ) → (k ≡ l → ⊥) → row (set lists l ys) k ≡ row lists k = λ (k : ℕ) (ne : k ≡ l → ⊥). get_or-set_other lists l k ys [] ne in
@@ -93,21 +93,21 @@ module _ {nx pv hm : List ℕ} {n count : ℕ} {lists : List (List ℕ)} where
         counted = length-set lists l ys ∙ linked.counted;
         rings = λ (k : ℕ) (bk : k < count).
             elim (cases_eq k l) [
-              inl e ↦ subst (λ (i : ℕ). RingOf i (row (set lists l ys) i)) (sym e) (subst (RingOf l) (sym row_same) new_ring)
-            | inr ne ↦ subst (RingOf k) (sym (row_other k ne)) (kept_in (linked.rings k bk) l (row lists l) ring ne a p ha (lacks_ring n lists p k bp (lacks k)))
+              | inl e ↦ subst (λ (i : ℕ). RingOf i (row (set lists l ys) i)) (sym e) (subst (RingOf l) (sym row_same) new_ring)
+              | inr ne ↦ subst (RingOf k) (sym (row_other k ne)) (kept_in (linked.rings k bk) l (row lists l) ring ne a p ha (lacks_ring n lists p k bp (lacks k)))
             ];
         small = λ (k y : ℕ) (bk : k < count) (t : has y (row (set lists l ys) k) ≡ true).
             elim (cases_eq k l) [
-              inl e ↦
-                let in_ys : has y ys ≡ true = sym (ap (has y) (ap (row (set lists l ys)) e ∙ row_same)) ∙ t in
-                elim (has_of_inserted a p y ((n + l) ∷ row lists l) (ap (has y) ring_is ∙ has_tail y (n + l) ys in_ys)) [
-                  inl q ↦ subst (λ (z : ℕ). z < n) (sym q) bp
-                | inr s ↦
-                    elim (has_cases y (n + l) (row lists l) s) [
-                      inl q ↦ absurd (both_ways (has (n + l) ys) new_ring.once.0 (sym (ap (λ (z : ℕ). has z ys) q) ∙ in_ys))
-                    | inr u ↦ linked.small l y below u
-                    ]
-                ]
-            | inr ne ↦ linked.small k y bk (sym (ap (has y) (row_other k ne)) ∙ t)
+              | inl e ↦
+                  let in_ys : has y ys ≡ true = sym (ap (has y) (ap (row (set lists l ys)) e ∙ row_same)) ∙ t in
+                  elim (has_of_inserted a p y ((n + l) ∷ row lists l) (ap (has y) ring_is ∙ has_tail y (n + l) ys in_ys)) [
+                    | inl q ↦ subst (λ (z : ℕ). z < n) (sym q) bp
+                    | inr s ↦
+                        elim (has_cases y (n + l) (row lists l) s) [
+                          | inl q ↦ absurd (both_ways (has (n + l) ys) new_ring.once.0 (sym (ap (λ (z : ℕ). has z ys) q) ∙ in_ys))
+                          | inr u ↦ linked.small l y below u
+                        ]
+                  ]
+              | inr ne ↦ linked.small k y bk (sym (ap (has y) (row_other k ne)) ∙ t)
             ];
       }

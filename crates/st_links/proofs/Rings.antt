@@ -4,7 +4,7 @@ use Rattle.std.proofs.lemmas.Bool.{cases_eq, both_ways, or_left, eq-eqb, false�
 use Rattle.std.proofs.lemmas.List.{get_or-set_other, get_or-set_same, length-set}
 use Rattle.st_rules.specs.Cache.{has, without, AreDistinct}
 use Rattle.st_rules.proofs.Members.{has_head, has_tail, has_cases, differ_by_list, without_there, has_of_without, lacks_itself, AreDistinct-without}
-use Rattle.st_links.specs.Ring.{Ring, first_or, follower}
+use Rattle.st_links.specs.Ring.{Ring, first_or, follower, put_next, put_prev}
 use Rattle.st_links.proofs.Follow.{follower_here, follower_in, follower-without_at, follower-without, inserted, follower-inserted_before, follower-inserted_at, follower-inserted, has_of_inserted, AreDistinct-inserted, leader, leader_in, follower-leader, last_from, last_from_in, follower-last}
 
 -- a read after a write, by whether it is at the same place
@@ -16,8 +16,8 @@ module _ {nx pv hm : List ℕ} {m l d : ℕ} {xs : List ℕ} where
   pub next_in : Ring nx pv hm m l d xs → (y : ℕ) → has y (d ∷ xs) ≡ true → has (get_or nx y 0) (d ∷ xs) ≡ true
   next_in ring y h =
       elim (follower_in d y (d ∷ xs)) [
-        inl e ↦ ap (λ (z : ℕ). has z (d ∷ xs)) (ring.forth y h ∙ e) ∙ has_head d xs
-      | inr t ↦ ap (λ (z : ℕ). has z (d ∷ xs)) (ring.forth y h) ∙ t
+        | inl e ↦ ap (λ (z : ℕ). has z (d ∷ xs)) (ring.forth y h ∙ e) ∙ has_head d xs
+        | inr t ↦ ap (λ (z : ℕ). has z (d ∷ xs)) (ring.forth y h) ∙ t
       ]
 
   -- what stands before a node
@@ -54,7 +54,7 @@ module _ {nx pv hm : List ℕ} {m l d : ℕ} {xs : List ℕ} where
       let b : ℕ = get_or nx p 0 in
       let ring_is : without p (d ∷ xs) ≡ d ∷ without p xs = without_there p d xs pd in
       let was : (y : ℕ) → has y (d ∷ without p xs) ≡ true → (has y (d ∷ xs) ≡ true) × (y ≡ p → ⊥) =
-          λ (y : ℕ) (k : has y (d ∷ without p xs) ≡ true). has_of_without y p (d ∷ xs) (ap (has y) ring_is ∙ k) in
+      λ (y : ℕ) (k : has y (d ∷ without p xs) ≡ true). has_of_without y p (d ∷ xs) (ap (has y) ring_is ∙ k) in
       let a_below : a < length nx = subst (λ (k : ℕ). a < k) long_nx (ring.inside a (prev_in ring p h)).0 in
       let b_below : b < length pv = subst (λ (k : ℕ). b < k) long_pv (ring.inside b (next_in ring p p_in)).0 in
       record {
@@ -63,27 +63,27 @@ module _ {nx pv hm : List ℕ} {m l d : ℕ} {xs : List ℕ} where
         forth = λ (y : ℕ) (k : has y (d ∷ without p xs) ≡ true).
             let w = was y k in
             elim (cases_eq (get_or nx y 0) p) [
-              inl e ↦
-                let ya : y ≡ a = sym (ring.back y w.0) ∙ ap (λ (z : ℕ). get_or pv z 0) e in
-                at_same nx a y b ya a_below
-                ∙ ring.forth p p_in
-                ∙ sym (follower-without_at d p y (d ∷ xs) ring.once pd w.1 w.0 (sym (ring.forth y w.0) ∙ e))
-                ∙ ap (λ (zs : List ℕ). follower d zs y) ring_is
-            | inr ne ↦
-                let ya : y ≢ a = λ (q : y ≡ a). ne (ap (λ (z : ℕ). get_or nx z 0) q ∙ next_of_prev ring p h) in
-                get_or-set_other nx a y b 0 ya
-                ∙ ring.forth y w.0
-                ∙ sym (follower-without d p y (d ∷ xs) ring.once w.1 (λ (q : follower d (d ∷ xs) y ≡ p). ne (ring.forth y w.0 ∙ q)))
-                ∙ ap (λ (zs : List ℕ). follower d zs y) ring_is
+              | inl e ↦
+                  let ya : y ≡ a = sym (ring.back y w.0) ∙ ap (λ (z : ℕ). get_or pv z 0) e in
+                  at_same nx a y b ya a_below
+                  ∙ ring.forth p p_in
+                  ∙ sym (follower-without_at d p y (d ∷ xs) ring.once pd w.1 w.0 (sym (ring.forth y w.0) ∙ e))
+                  ∙ ap (λ (zs : List ℕ). follower d zs y) ring_is
+              | inr ne ↦
+                  let ya : y ≢ a = λ (q : y ≡ a). ne (ap (λ (z : ℕ). get_or nx z 0) q ∙ next_of_prev ring p h) in
+                  get_or-set_other nx a y b 0 ya
+                  ∙ ring.forth y w.0
+                  ∙ sym (follower-without d p y (d ∷ xs) ring.once w.1 (λ (q : follower d (d ∷ xs) y ≡ p). ne (ring.forth y w.0 ∙ q)))
+                  ∙ ap (λ (zs : List ℕ). follower d zs y) ring_is
             ];
         back = λ (y : ℕ) (k : has y (d ∷ without p xs) ≡ true).
             let w = was y k in
             elim (cases_eq y a) [
-              inl e ↦ ap (λ (z : ℕ). get_or (set pv b a) z 0) (at_same nx a y b e a_below) ∙ get_or-set_same pv b a 0 b_below ∙ sym e
-            | inr ne ↦
-                let same : get_or (set nx a b) y 0 ≡ get_or nx y 0 = get_or-set_other nx a y b 0 ne in
-                let nb : get_or nx y 0 ≢ b = λ (q : get_or nx y 0 ≡ b). w.1 (sym (ring.back y w.0) ∙ ap (λ (z : ℕ). get_or pv z 0) q ∙ ring.back p p_in) in
-                ap (λ (z : ℕ). get_or (set pv b a) z 0) same ∙ get_or-set_other pv b (get_or nx y 0) a 0 nb ∙ ring.back y w.0
+              | inl e ↦ ap (λ (z : ℕ). get_or (set pv b a) z 0) (at_same nx a y b e a_below) ∙ get_or-set_same pv b a 0 b_below ∙ sym e
+              | inr ne ↦
+                  let same : get_or (set nx a b) y 0 ≡ get_or nx y 0 = get_or-set_other nx a y b 0 ne in
+                  let nb : get_or nx y 0 ≢ b = λ (q : get_or nx y 0 ≡ b). w.1 (sym (ring.back y w.0) ∙ ap (λ (z : ℕ). get_or pv z 0) q ∙ ring.back p p_in) in
+                  ap (λ (z : ℕ). get_or (set pv b a) z 0) same ∙ get_or-set_other pv b (get_or nx y 0) a 0 nb ∙ ring.back y w.0
             ];
       }
 
@@ -98,7 +98,7 @@ kept_out {nx} {pv} {hm} {m} {k} {d} {e} {ys} other l xs ring kl p h =
     let b : ℕ = get_or nx p 0 in
     let apart : (y : ℕ) → has y (e ∷ ys) ≡ true → (z : ℕ) → has z (d ∷ xs) ≡ true → y ≢ z = in_different other ring kl in
     let same : (y : ℕ) → has y (e ∷ ys) ≡ true → get_or (set nx a b) y 0 ≡ get_or nx y 0 =
-        λ (y : ℕ) (i : has y (e ∷ ys) ≡ true). get_or-set_other nx a y b 0 (apart y i a (prev_in ring p h)) in
+    λ (y : ℕ) (i : has y (e ∷ ys) ≡ true). get_or-set_other nx a y b 0 (apart y i a (prev_in ring p h)) in
     record {
       inside = other.inside;
       once = other.once;
@@ -109,15 +109,8 @@ kept_out {nx} {pv} {hm} {m} {k} {d} {e} {ys} other l xs ring kl p h =
           ∙ other.back y i;
     }
 
--- the arrays with p put behind a
-abbrev pub next_put : List ℕ → ℕ → ℕ → List ℕ
-next_put nx a p = set (set nx p (get_or nx a 0)) a p
-
-abbrev pub prev_put : List ℕ → List ℕ → ℕ → ℕ → List ℕ
-prev_put nx pv a p = set (set pv p a) (get_or nx a 0) p
-
 -- a node that stands in no ring is put into one
-pub put_in : {nx pv hm : List ℕ} {m l d : ℕ} {xs : List ℕ} → Ring nx pv hm m l d xs → m ≡ length nx → m ≡ length pv → (a p : ℕ) (ys : List ℕ) → has a (d ∷ xs) ≡ true → has p (d ∷ xs) ≡ false → p < m → get_or hm p 0 ≡ l → inserted a p (d ∷ xs) ≡ d ∷ ys → Ring (next_put nx a p) (prev_put nx pv a p) hm m l d ys
+pub put_in : {nx pv hm : List ℕ} {m l d : ℕ} {xs : List ℕ} → Ring nx pv hm m l d xs → m ≡ length nx → m ≡ length pv → (a p : ℕ) (ys : List ℕ) → has a (d ∷ xs) ≡ true → has p (d ∷ xs) ≡ false → p < m → get_or hm p 0 ≡ l → inserted a p (d ∷ xs) ≡ d ∷ ys → Ring (put_next nx a p) (put_prev nx pv a p) hm m l d ys
 put_in {nx} {pv} {hm} {m} {l} {d} {xs} ring long_nx long_pv a p ys ha lacks below home ring_is =
     let c : ℕ = get_or nx a 0 in
     let nx1 : List ℕ = set nx p c in
@@ -129,17 +122,17 @@ put_in {nx} {pv} {hm} {m} {l} {d} {xs} ring long_nx long_pv a p ys ha lacks belo
     let p_below_nx : p < length nx = subst (λ (k : ℕ). p < k) long_nx below in
     let p_below_pv : p < length pv = subst (λ (k : ℕ). p < k) long_pv below in
     let was : (y : ℕ) → has y (d ∷ ys) ≡ true → (y ≡ p) ⊎ (has y (d ∷ xs) ≡ true) =
-        λ (y : ℕ) (k : has y (d ∷ ys) ≡ true). has_of_inserted a p y (d ∷ xs) (ap (has y) ring_is ∙ k) in
+    λ (y : ℕ) (k : has y (d ∷ ys) ≡ true). has_of_inserted a p y (d ∷ xs) (ap (has y) ring_is ∙ k) in
     let stays : (y : ℕ) → has y (d ∷ ys) ≡ true → (y ≡ p → ⊥) → has y (d ∷ xs) ≡ true =
-        λ (y : ℕ) (k : has y (d ∷ ys) ≡ true) (yp : y ≡ p → ⊥). elim (was y k) [ inl q ↦ absurd (yp q) | inr t ↦ t ] in
+    λ (y : ℕ) (k : has y (d ∷ ys) ≡ true) (yp : y ≡ p → ⊥). elim (was y k) [ inl q ↦ absurd (yp q) | inr t ↦ t ] in
     let next_p : get_or (set nx1 a p) p 0 ≡ c = get_or-set_other nx1 a p p 0 pa ∙ get_or-set_same nx p c 0 p_below_nx in
     let next_other : (y : ℕ) → (y ≡ a → ⊥) → (y ≡ p → ⊥) → get_or (set nx1 a p) y 0 ≡ get_or nx y 0 =
-        λ (y : ℕ) (ya : y ≡ a → ⊥) (yp : y ≡ p → ⊥). get_or-set_other nx1 a y p 0 ya ∙ get_or-set_other nx p y c 0 yp in
+    λ (y : ℕ) (ya : y ≡ a → ⊥) (yp : y ≡ p → ⊥). get_or-set_other nx1 a y p 0 ya ∙ get_or-set_other nx p y c 0 yp in
     record {
       inside = λ (y : ℕ) (k : has y (d ∷ ys) ≡ true).
           elim (was y k) [
-            inl e ↦ (subst (λ (z : ℕ). z < m) (sym e) below, ap (λ (z : ℕ). get_or hm z 0) e ∙ home)
-          | inr t ↦ ring.inside y t
+            | inl e ↦ (subst (λ (z : ℕ). z < m) (sym e) below, ap (λ (z : ℕ). get_or hm z 0) e ∙ home)
+            | inr t ↦ ring.inside y t
           ];
       once = subst AreDistinct ring_is (AreDistinct-inserted a p (d ∷ xs) ring.once lacks);
       forth = λ (y : ℕ) (k : has y (d ∷ ys) ≡ true).
@@ -147,40 +140,40 @@ put_in {nx} {pv} {hm} {m} {l} {d} {xs} ring long_nx long_pv a p ys ha lacks belo
           let read = λ (z : ℕ). get_or (set nx1 a p) z 0 in
           let follow = λ (z : ℕ). follower d (inserted a p (d ∷ xs)) z in
           elim (cases_eq y p) [
-            inl e ↦ ap read e ∙ next_p ∙ ring.forth a ha ∙ sym (follower-inserted_at d a p (d ∷ xs) ha lacks) ∙ ap follow (sym e) ∙ to
-          | inr yp ↦
-              elim (cases_eq y a) [
-                inl e ↦ at_same nx1 a y p e a_below ∙ sym (follower-inserted_before d a p (d ∷ xs) ha) ∙ ap follow (sym e) ∙ to
-              | inr ya ↦ next_other y ya yp ∙ ring.forth y (stays y k yp) ∙ sym (follower-inserted d a p y (d ∷ xs) ya yp) ∙ to
-              ]
+            | inl e ↦ ap read e ∙ next_p ∙ ring.forth a ha ∙ sym (follower-inserted_at d a p (d ∷ xs) ha lacks) ∙ ap follow (sym e) ∙ to
+            | inr yp ↦
+                elim (cases_eq y a) [
+                  | inl e ↦ at_same nx1 a y p e a_below ∙ sym (follower-inserted_before d a p (d ∷ xs) ha) ∙ ap follow (sym e) ∙ to
+                  | inr ya ↦ next_other y ya yp ∙ ring.forth y (stays y k yp) ∙ sym (follower-inserted d a p y (d ∷ xs) ya yp) ∙ to
+                ]
           ];
       back = λ (y : ℕ) (k : has y (d ∷ ys) ≡ true).
           let read = λ (z : ℕ). get_or (set pv1 c p) z 0 in
           let from = λ (z : ℕ). get_or (set nx1 a p) z 0 in
           let pc : p ≢ c = λ (q : p ≡ c). differ_by_list c p (d ∷ xs) c_in lacks (sym q) in
           elim (cases_eq y p) [
-            inl e ↦ ap read (ap from e ∙ next_p) ∙ get_or-set_same pv1 c p 0 c_below ∙ sym e
-          | inr yp ↦
-              elim (cases_eq y a) [
-                inl e ↦
-                  ap read (at_same nx1 a y p e a_below) ∙ get_or-set_other pv1 c p p 0 pc ∙ get_or-set_same pv p a 0 p_below_pv ∙ sym e
-              | inr ya ↦
-                  let t : has y (d ∷ xs) ≡ true = stays y k yp in
-                  let nc : get_or nx y 0 ≢ c = λ (q : get_or nx y 0 ≡ c). ya (sym (ring.back y t) ∙ ap (λ (z : ℕ). get_or pv z 0) q ∙ ring.back a ha) in
-                  let np : get_or nx y 0 ≢ p = differ_by_list (get_or nx y 0) p (d ∷ xs) (next_in ring y t) lacks in
-                  ap read (next_other y ya yp) ∙ get_or-set_other pv1 c (get_or nx y 0) p 0 nc ∙ get_or-set_other pv p (get_or nx y 0) a 0 np ∙ ring.back y t
-              ]
+            | inl e ↦ ap read (ap from e ∙ next_p) ∙ get_or-set_same pv1 c p 0 c_below ∙ sym e
+            | inr yp ↦
+                elim (cases_eq y a) [
+                  | inl e ↦
+                      ap read (at_same nx1 a y p e a_below) ∙ get_or-set_other pv1 c p p 0 pc ∙ get_or-set_same pv p a 0 p_below_pv ∙ sym e
+                  | inr ya ↦
+                      let t : has y (d ∷ xs) ≡ true = stays y k yp in
+                      let nc : get_or nx y 0 ≢ c = λ (q : get_or nx y 0 ≡ c). ya (sym (ring.back y t) ∙ ap (λ (z : ℕ). get_or pv z 0) q ∙ ring.back a ha) in
+                      let np : get_or nx y 0 ≢ p = differ_by_list (get_or nx y 0) p (d ∷ xs) (next_in ring y t) lacks in
+                      ap read (next_other y ya yp) ∙ get_or-set_other pv1 c (get_or nx y 0) p 0 nc ∙ get_or-set_other pv p (get_or nx y 0) a 0 np ∙ ring.back y t
+                ]
           ];
     }
 
 -- putting it in leaves the ring of another list
-pub kept_in : {nx pv hm : List ℕ} {m k d e : ℕ} {ys : List ℕ} → Ring nx pv hm m k e ys → (l : ℕ) (xs : List ℕ) → Ring nx pv hm m l d xs → (k ≡ l → ⊥) → (a p : ℕ) → has a (d ∷ xs) ≡ true → has p (e ∷ ys) ≡ false → Ring (next_put nx a p) (prev_put nx pv a p) hm m k e ys
+pub kept_in : {nx pv hm : List ℕ} {m k d e : ℕ} {ys : List ℕ} → Ring nx pv hm m k e ys → (l : ℕ) (xs : List ℕ) → Ring nx pv hm m l d xs → (k ≡ l → ⊥) → (a p : ℕ) → has a (d ∷ xs) ≡ true → has p (e ∷ ys) ≡ false → Ring (put_next nx a p) (put_prev nx pv a p) hm m k e ys
 kept_in {nx} {pv} {hm} {m} {k} {d} {e} {ys} other l xs ring kl a p ha lacks =
     let c : ℕ = get_or nx a 0 in
     let same : (y : ℕ) → has y (e ∷ ys) ≡ true → get_or (set (set nx p c) a p) y 0 ≡ get_or nx y 0 =
-        λ (y : ℕ) (i : has y (e ∷ ys) ≡ true).
-            get_or-set_other (set nx p c) a y p 0 (in_different other ring kl y i a ha)
-            ∙ get_or-set_other nx p y c 0 (differ_by_list y p (e ∷ ys) i lacks) in
+    λ (y : ℕ) (i : has y (e ∷ ys) ≡ true).
+    get_or-set_other (set nx p c) a y p 0 (in_different other ring kl y i a ha)
+    ∙ get_or-set_other nx p y c 0 (differ_by_list y p (e ∷ ys) i lacks) in
     record {
       inside = other.inside;
       once = other.once;

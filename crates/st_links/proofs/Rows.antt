@@ -18,9 +18,9 @@ walk_on nx d (x ∷ xs) (suc most) at lacks dist fits =
     let parts = lacks_parts d x xs lacks in
     let next : get_or nx x 0 ≡ first_or d xs = at x (has_head x xs) ∙ follower_here d x xs in
     let rest : walk nx d most (first_or d xs) ≡ xs =
-        walk_on nx d xs most
-        (λ (y : ℕ) (h : has y xs ≡ true). at y (has_tail y x xs h) ∙ follower_there d x y xs (differ_by_list y x xs h dist.0))
-        parts.1 dist.1 (omega arith) in
+    walk_on nx d xs most
+    (λ (y : ℕ) (h : has y xs ≡ true). at y (has_tail y x xs h) ∙ follower_there d x y xs (differ_by_list y x xs h dist.0))
+    parts.1 dist.1 (omega arith) in
     cond-false (eqb x d) [] (x ∷ walk nx d most (get_or nx x 0)) (ne_eqb x d (λ (q : x ≡ d). parts.0 (sym q)))
     ∙ ap (λ (y : ℕ). x ∷ walk nx d most y) next
     ∙ ap (λ (ys : List ℕ). x ∷ ys) rest
@@ -45,8 +45,8 @@ module _ {nx pv hm : List ℕ} {n count : ℕ} {lists : List (List ℕ)} where
       let xs : List ℕ = row lists l in
       ap (walk nx (n + l) n) (first_is ring)
       ∙ walk_on nx (n + l) xs n
-        (λ (y : ℕ) (h : has y xs ≡ true). ring.forth y (has_tail y (n + l) xs h) ∙ follower_there (n + l) (n + l) y xs (differ_by_list y (n + l) xs h ring.once.0))
-        ring.once.0 ring.once.1 (length_of_distinct xs n ring.once.1 (λ (y : ℕ) (h : has y xs ≡ true). linked.small l y below h))
+      (λ (y : ℕ) (h : has y xs ≡ true). ring.forth y (has_tail y (n + l) xs h) ∙ follower_there (n + l) (n + l) y xs (differ_by_list y (n + l) xs h ring.once.0))
+      ring.once.0 ring.once.1 (length_of_distinct xs n ring.once.1 (λ (y : ℕ) (h : has y xs ≡ true). linked.small l y below h))
 
 rows_at : (nx : List ℕ) (n l : ℕ) (lists : List (List ℕ)) → ((i : ℕ) → i < length lists → walk nx (n + (l + i)) n (get_or nx (n + (l + i)) 0) ≡ row lists i) → rows_from nx n l (length lists) ≡ lists
 rows_at nx n l [] at = refl
@@ -54,7 +54,7 @@ rows_at nx n l (xs ∷ lists) at =
     let W : ℕ → List ℕ = λ (k : ℕ). walk nx (n + k) n (get_or nx (n + k) 0) in
     let here : W l ≡ xs = ap W (omega arith) ∙ at 0 (omega arith) in
     let rest : rows_from nx n (suc l) (length lists) ≡ lists =
-        rows_at nx n (suc l) lists (λ (i : ℕ) (h : i < length lists). ap W (omega arith) ∙ at (suc i) (omega arith)) in
+    rows_at nx n (suc l) lists (λ (i : ℕ) (h : i < length lists). ap W (omega arith) ∙ at (suc i) (omega arith)) in
     ap (λ (ys : List ℕ). ys ∷ rows_from nx n (suc l) (length lists)) here ∙ ap (λ (zs : List (List ℕ)). xs ∷ zs) rest
 
 -- the lists that the arrays stand for are those that walking finds

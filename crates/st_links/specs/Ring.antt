@@ -1,5 +1,5 @@
 -- how the arrays of `Links` stand for an arena: each list is a ring through a sentinel of its own, which is a node past the places
-use Rattle.std.specs.Prelude.{◌≡◌, ℕ, suc, zero, ◌+◌, ◌<◌, true, false, nat_eq, List, [], ◌∷◌, length, slice_index, if◌then◌else◌}
+use Rattle.std.specs.Prelude.{◌≡◌, ℕ, suc, zero, ◌+◌, ◌<◌, true, false, nat_eq, nat_lt, List, [], ◌∷◌, length, slice_index, slice_set, Option, Some, None, if◌then◌else◌}
 use Rattle.st_rules.specs.Cache.{has, AreDistinct}
 use Rattle.st_links.specs.Arena.{row, is_linked}
 
@@ -49,3 +49,32 @@ pub record Linked (nx pv hm : List ℕ) (n count : ℕ) (lists : List (List ℕ)
 pub record Tied (nx pv hm : List ℕ) (n count : ℕ) (lists : List (List ℕ)) : Type 0 where
   pub linked : Linked nx pv hm n count lists
   pub held : (p : ℕ) → p < n → slice_index hm p < count → has p (row lists (slice_index hm p)) ≡ true
+
+-- a node as a place: a sentinel is none
+abbrev pub as_place : ℕ → ℕ → Option ℕ
+as_place n y = if nat_lt y n then Some y else None
+
+-- the arrays with a node taken out of its ring
+abbrev pub taken_next : List ℕ → List ℕ → ℕ → List ℕ
+taken_next nx pv p = slice_set nx (slice_index pv p) (slice_index nx p)
+
+abbrev pub taken_prev : List ℕ → List ℕ → ℕ → List ℕ
+taken_prev nx pv p = slice_set pv (slice_index nx p) (slice_index pv p)
+
+-- the arrays with node p put behind node a
+abbrev pub put_next : List ℕ → ℕ → ℕ → List ℕ
+put_next nx a p = slice_set (slice_set nx p (slice_index nx a)) a p
+
+abbrev pub put_prev : List ℕ → List ℕ → ℕ → ℕ → List ℕ
+put_prev nx pv a p = slice_set (slice_set pv p a) (slice_index nx a) p
+
+-- each of m nodes names itself
+pub record IsSelf (xs : List ℕ) (m : ℕ) : Type 0 where
+  pub long : length xs ≡ m
+  pub self_at : (k : ℕ) → k < m → slice_index xs k ≡ k
+
+-- n places name no list, and `count` sentinels name their own
+pub record IsHome (xs : List ℕ) (n count : ℕ) : Type 0 where
+  pub long : length xs ≡ n + count
+  pub free : (k : ℕ) → k < n → slice_index xs k ≡ count
+  pub own : (l : ℕ) → l < count → slice_index xs (n + l) ≡ l
