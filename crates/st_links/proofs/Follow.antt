@@ -1,5 +1,5 @@
 -- what follows a node in a ring that is written as a list, its sentinel first
-use Rattle.std.proofs.Common.{◌≡◌, ℕ, ◌<◌, Bool, true, false, not, List, [], ◌∷◌, ◌++◌, length, cond, eqb, ◌⊎◌, inl, inr, refl, sym, ◌∙◌, ap, subst}
+use Rattle.std.proofs.Common.{◌≡◌, ℕ, true, false, List, [], ◌∷◌, ◌++◌, cond, eqb, ◌⊎◌, inl, inr, refl, sym, ◌∙◌, ap, subst}
 use Rattle.std.proofs.lemmas.Bool.{cases_eq, eq-eqb, ne_eqb, or_left, cond-true, cond-false, false≢true, both_ways, false_from_ne_true}
 use Rattle.st_rules.specs.Cache.{has, without, AreDistinct}
 use Rattle.st_links.specs.Ring.{first_or, follower}

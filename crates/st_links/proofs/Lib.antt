@@ -4,3 +4,4 @@ pub mod Rows
 pub mod Moves
 pub mod Ties
 pub mod Neighbours
+pub mod Calls

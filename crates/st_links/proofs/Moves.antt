@@ -1,13 +1,13 @@
 -- what taking a place out of its list and putting it into one does to all lists
-use Rattle.std.proofs.Common.{◌≡◌, ℕ, zero, suc, ◌+◌, ◌<◌, ◌≤◌, ◌≢◌, Bool, true, false, List, [], ◌∷◌, ◌++◌, length, get_or, set, map, cond, eqb, ◌⊎◌, inl, inr, refl, sym, ◌∙◌, ap, subst, arith}
+use Rattle.std.proofs.Common.{◌≡◌, ℕ, zero, suc, ◌+◌, ◌<◌, true, false, List, [], ◌∷◌, length, get_or, set, inl, inr, refl, sym, ◌∙◌, ap, subst, arith}
 use Rattle.std.proofs.Math.ListN.{get_or-map}
-use Rattle.std.proofs.lemmas.Bool.{cases_eq, cases_Bool, both_ways, or_cases, or_parts, or_left, or_right, eq-eqb, cond-true, cond-false, false≢true, false_from_ne_true}
-use Rattle.std.proofs.lemmas.List.{get_or-set_other, get_or-set_same, length-set, length-map, ext_get_or}
-use Rattle.st_rules.specs.Cache.{has, without, promoted, AreDistinct}
-use Rattle.st_rules.proofs.Members.{has_head, has_tail, has_cases, lacks_from, has_of_without, has-without, lacks_itself, without_absent}
-use Rattle.st_links.specs.Arena.{row, is_linked, unlinked, fronted, pushed_front, pushed_back}
-use Rattle.st_links.specs.Ring.{Ring, Linked, Tied, put_next, put_prev}
-use Rattle.st_links.proofs.Follow.{inserted, inserted_here, inserted-last, has_of_inserted, last_from}
+use Rattle.std.proofs.lemmas.Bool.{cases_eq, both_ways, or_cases, or_left, or_right, false≢true, false_from_ne_true}
+use Rattle.std.proofs.lemmas.List.{get_or-set_other, get_or-set_same, length-set, length-map}
+use Rattle.st_rules.specs.Cache.{has, without, promoted}
+use Rattle.st_rules.proofs.Members.{has_tail, has_cases, lacks_from, has_of_without, without_absent}
+use Rattle.st_links.specs.Arena.{row, is_linked, unlinked, fronted}
+use Rattle.st_links.specs.Ring.{Ring, Linked, put_next, put_prev}
+use Rattle.st_links.proofs.Follow.{inserted, has_of_inserted}
 use Rattle.st_links.proofs.Rings.{in_different, taken_out, kept_out, put_in, kept_in, homed}
 
 -- a place that is linked stands in a list of some number

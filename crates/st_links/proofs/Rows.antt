@@ -1,12 +1,12 @@
 -- a list is found by walking its ring
-use Rattle.std.proofs.Common.{◌≡◌, ℕ, zero, suc, ◌+◌, ◌<◌, ◌≤◌, ◌≢◌, Bool, true, false, List, [], ◌∷◌, ◌++◌, length, get_or, cond, eqb, ◌⊎◌, inl, inr, refl, sym, ◌∙◌, ap, subst, arith}
+use Rattle.std.proofs.Common.{◌≡◌, ℕ, zero, suc, ◌+◌, ◌<◌, ◌≤◌, true, false, List, [], ◌∷◌, length, get_or, eqb, refl, sym, ◌∙◌, ap, subst, arith}
 use Rattle.std.specs.List.{IsDistinct, AllByRecursion}
-use Rattle.std.proofs.lemmas.Bool.{cases_eq, both_ways, eq-eqb, ne_eqb, cond-true, cond-false, false≢true}
+use Rattle.std.proofs.lemmas.Bool.{eq-eqb, ne_eqb, cond-true, cond-false}
 use Rattle.std.proofs.lemmas.Map.Steps.{length-le_from_distinct_below}
 use Rattle.st_rules.specs.Cache.{has, AreDistinct}
-use Rattle.st_rules.proofs.Members.{has_head, has_tail, has_cases, lacks_parts, differ_by_list}
+use Rattle.st_rules.proofs.Members.{has_head, has_tail, lacks_parts, differ_by_list}
 use Rattle.st_links.specs.Arena.{row}
-use Rattle.st_links.specs.Ring.{first_or, follower, walk, rows_from, rows, Ring, Linked}
+use Rattle.st_links.specs.Ring.{first_or, follower, walk, rows_from, rows, Linked}
 use Rattle.st_links.proofs.Follow.{follower_here, follower_there}
 use Rattle.st_links.proofs.Rings.{first_is}
 

@@ -1,7 +1,7 @@
 -- how the arrays of `Links` stand for an arena: each list is a ring through a sentinel of its own, which is a node past the places
-use Rattle.std.specs.Prelude.{◌≡◌, ℕ, suc, zero, ◌+◌, ◌<◌, true, false, nat_eq, nat_lt, List, [], ◌∷◌, length, slice_index, slice_set, Option, Some, None, if◌then◌else◌}
+use Rattle.std.specs.Prelude.{◌≡◌, ℕ, suc, zero, ◌+◌, ◌<◌, true, nat_eq, nat_lt, List, [], ◌∷◌, length, slice_index, slice_set, Option, Some, None, if◌then◌else◌}
 use Rattle.st_rules.specs.Cache.{has, AreDistinct}
-use Rattle.st_links.specs.Arena.{row, is_linked}
+use Rattle.st_links.specs.Arena.{row}
 
 -- the first item, or d where there is none
 abbrev pub first_or : ℕ → List ℕ → ℕ
@@ -73,8 +73,8 @@ pub record IsSelf (xs : List ℕ) (m : ℕ) : Type 0 where
   pub long : length xs ≡ m
   pub self_at : (k : ℕ) → k < m → slice_index xs k ≡ k
 
--- n places name no list, and `count` sentinels name their own
-pub record IsHome (xs : List ℕ) (n count : ℕ) : Type 0 where
-  pub long : length xs ≡ n + count
+-- n places name none of `count` lists, and the sentinels of the first `own` lists name their own
+pub record IsHome (xs : List ℕ) (n count own : ℕ) : Type 0 where
+  pub long : length xs ≡ n + own
   pub free : (k : ℕ) → k < n → slice_index xs k ≡ count
-  pub own : (l : ℕ) → l < count → slice_index xs (n + l) ≡ l
+  pub sentinels : (l : ℕ) → l < own → slice_index xs (n + l) ≡ l

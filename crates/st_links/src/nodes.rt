@@ -18,7 +18,7 @@ pub fn selves(alloc: Global, count: usize) -> Result<Vec<usize>, NoMemory>
 
 /// The array of the lists that nodes stand in: no list for a place, and its own for a sentinel.
 pub fn homes(alloc: Global, lists: usize, places: usize) -> Result<Vec<usize>, NoMemory>
-    ensures { IfOk result (λ v. IsHome v.items places lists) }
+    ensures { IfOk result (λ v. IsHome v.items places lists lists) }
 {
     let mut homes = vec![in alloc; lists; places]?;
     for list in 0..lists {
