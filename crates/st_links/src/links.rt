@@ -33,7 +33,8 @@ impl Model for Links {
 impl Links {
     /// So many empty lists, over so many places.
     pub fn make(alloc: Global, lists: usize, places: usize) -> Result<Self, NoMemory>
-        ensures { IfOk result (λ links. links ≡ record { lists = replicate lists []; places = places }) }
+        ensures lists { IfOk result (λ links. links ≡ record { lists = replicate lists []; places = places }) }
+        ensures valid { IfOk result (λ links. IsArena links.lists links.places) }
     {
         let nodes = places.checked_add(lists).ok_or(NoMemory)?;
         let next = selves(alloc, nodes)?;
@@ -76,6 +77,7 @@ impl Links {
         requires place { place < self.old.places }
         requires free { is_linked self.old.lists place ≡ false }
         ensures lists { self.new ≡ record self.old { lists = pushed_front self.old.lists list place } }
+        ensures valid { IsArena self.new.lists self.new.places }
     {
         self.home[place] = list;
         put_behind(&mut self.next, &mut self.prev, self.places + list, place);
@@ -87,6 +89,7 @@ impl Links {
         requires place { place < self.old.places }
         requires free { is_linked self.old.lists place ≡ false }
         ensures lists { self.new ≡ record self.old { lists = pushed_back self.old.lists list place } }
+        ensures valid { IsArena self.new.lists self.new.places }
     {
         self.home[place] = list;
         let last = self.prev[self.places + list];
@@ -97,6 +100,7 @@ impl Links {
     pub fn unlink(&mut self, place: usize)
         requires linked { is_linked self.old.lists place ≡ true }
         ensures lists { self.new ≡ record self.old { lists = unlinked self.old.lists place } }
+        ensures valid { IsArena self.new.lists self.new.places }
     {
         take_out(&mut self.next, &mut self.prev, place);
         self.home[place] = self.lists;
@@ -106,6 +110,7 @@ impl Links {
     pub fn move_front(&mut self, place: usize)
         requires linked { is_linked self.old.lists place ≡ true }
         ensures lists { self.new ≡ record self.old { lists = fronted self.old.lists place } }
+        ensures valid { IsArena self.new.lists self.new.places }
     {
         take_out(&mut self.next, &mut self.prev, place);
         let sentinel = self.places + self.home[place];

@@ -1,6 +1,6 @@
 use Rattle.std.proofs.Common.{◌≡◌, ◌+◌, ◌<◌, ◌∙◌, ℕ, sym, subst, replicate, [], Option, Some}
 use Rattle.std.specs.Option.{SomeIff}
-use Rattle.st_links.proofs.Ties.{tied_made}
+use Rattle.st_links.proofs.Ties.{tied_made, IsArena-from}
 use Rattle.st_links.proofs.Calls.{Done, done}
 use Rattle.st_links.proofs.links.Links.make.Goals as goal
 
@@ -25,4 +25,4 @@ pub invariant_of-result : goal.invariant_of-result
 invariant_of-result c = (made c).closed
 
 pub returns : goal.returns
-returns c = (made c).seen
+returns c = record { lists = (made c).seen; valid = IsArena-from (made c).closed }

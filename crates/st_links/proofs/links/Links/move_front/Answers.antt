@@ -1,4 +1,5 @@
 use Rattle.std.proofs.Common.{◌<◌, ℕ, ◌+◌, get_or, length, ◌≡◌, sym, subst, ap, arith}
+use Rattle.st_links.proofs.Ties.{IsArena-from}
 use Rattle.st_links.proofs.Calls.{within_place, half_done, fronted_done, seen_tied, read_at}
 use Rattle.st_links.proofs.links.Links.move_front.Goals as goal
 
@@ -54,4 +55,5 @@ pub returns : goal.returns
 returns c = record {
   lists =
       (fronted_done c.self.invariant c.self.view_is _ c.requires.linked _ _ _ _ c.take_out.ensures.next c.take_out.ensures.prev _ (ap (λ (k : ℕ). c.self.inside.places + k) (read_at _ _ _ c.index.ensures (within_place (seen_tied c.self.invariant c.self.view_is) _ c.requires.linked).home_in)) c.put_behind.ensures.next c.put_behind.ensures.prev).seen;
+  valid = IsArena-from (fronted_done c.self.invariant c.self.view_is _ c.requires.linked _ _ _ _ c.take_out.ensures.next c.take_out.ensures.prev _ (ap (λ (k : ℕ). c.self.inside.places + k) (read_at _ _ _ c.index.ensures (within_place (seen_tied c.self.invariant c.self.view_is) _ c.requires.linked).home_in)) c.put_behind.ensures.next c.put_behind.ensures.prev).closed;
 }

@@ -1,4 +1,5 @@
 use Rattle.std.proofs.Common.{◌<◌, ℕ, ◌+◌, get_or, length, ◌≡◌, sym, subst}
+use Rattle.st_links.proofs.Ties.{IsArena-from}
 use Rattle.st_links.proofs.Calls.{within_sentinel, behind_last, back_done, seen_tied, read_at}
 use Rattle.st_links.proofs.links.Links.push_back.Goals as goal
 
@@ -29,4 +30,5 @@ pub returns : goal.returns
 returns c = record {
   lists =
       (back_done c.self.invariant c.self.view_is c.args.place c.args.list c.requires.list c.requires.place c.requires.free _ (last_at c) _ _ c.put_behind.ensures.next c.put_behind.ensures.prev).seen;
+  valid = IsArena-from (back_done c.self.invariant c.self.view_is c.args.place c.args.list c.requires.list c.requires.place c.requires.free _ (last_at c) _ _ c.put_behind.ensures.next c.put_behind.ensures.prev).closed;
 }

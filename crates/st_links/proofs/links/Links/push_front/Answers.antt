@@ -1,4 +1,5 @@
 use Rattle.std.proofs.Common.{◌<◌, ℕ, subst}
+use Rattle.st_links.proofs.Ties.{IsArena-from}
 use Rattle.st_links.proofs.Calls.{within_sentinel, front_done, seen_tied}
 use Rattle.st_links.proofs.links.Links.push_front.Goals as goal
 
@@ -15,4 +16,5 @@ pub returns : goal.returns
 returns c = record {
   lists =
       (front_done c.self.invariant c.self.view_is c.args.place c.args.list c.requires.list c.requires.place c.requires.free _ _ c.put_behind.ensures.next c.put_behind.ensures.prev).seen;
+  valid = IsArena-from (front_done c.self.invariant c.self.view_is c.args.place c.args.list c.requires.list c.requires.place c.requires.free _ _ c.put_behind.ensures.next c.put_behind.ensures.prev).closed;
 }

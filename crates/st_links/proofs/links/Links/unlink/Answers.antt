@@ -1,4 +1,5 @@
 use Rattle.std.proofs.Common.{◌<◌, ℕ, sym, subst}
+use Rattle.st_links.proofs.Ties.{IsArena-from}
 use Rattle.st_links.proofs.Calls.{within_place, seen_tied, unlink_done}
 use Rattle.st_links.proofs.links.Links.unlink.Goals as goal
 
@@ -25,4 +26,5 @@ invariant_of-self c = (unlink_done c.self.invariant c.self.view_is _ c.requires.
 pub returns : goal.returns
 returns c = record {
   lists = (unlink_done c.self.invariant c.self.view_is _ c.requires.linked _ _ c.take_out.ensures.next c.take_out.ensures.prev).seen;
+  valid = IsArena-from (unlink_done c.self.invariant c.self.view_is _ c.requires.linked _ _ c.take_out.ensures.next c.take_out.ensures.prev).closed;
 }
