@@ -1,13 +1,9 @@
-// A library with one function.
+//! The cache list: which cells are cached, where, and which was used last.
 #![tactic(auto)]
 
-ghost use Rattle.std.specs.Prelude.{◌≡◌};
-ghost use Rattle.st_cachemap.specs.Echo.{echo_of};
+mod answer;
+mod cache_map;
+mod slots;
 
-// The `ensures` clause is the contract: what `echo` returns is `echo_of` of its argument, a definition
-// in `specs/Echo.antt`, which a caller's clause can cite too.
-pub fn echo(x: usize) -> usize
-    ensures { result ≡ echo_of x }
-{
-    x
-}
+pub use answer::Touch;
+pub use cache_map::CacheMap;

@@ -1,0 +1,4 @@
+pub mod Entries
+pub mod Keeps
+pub mod Chain
+pub mod Calls
