@@ -11,12 +11,12 @@ use Rattle.st_links.proofs.Rings.{last_is}
 use Rattle.st_links.proofs.Moves.{linked_in, linked_from, lacks_in, row-unlinked, row-fronted, lacks_other, out, into, rehomed}
 
 -- a number that stands in the list stands in it with p put anywhere
-has_more : (y p : ℕ) (xs : List ℕ) → has y xs ≡ true → has y (xs ++ p ∷ []) ≡ true
+pub has_more : (y p : ℕ) (xs : List ℕ) → has y xs ≡ true → has y (xs ++ p ∷ []) ≡ true
 has_more y p [] h = absurd (false≢true h)
 has_more y p (x ∷ xs) h =
     elim (has_cases y x xs h) [ inl e ↦ or_left (eqb y x) (has y (xs ++ p ∷ [])) (eq-eqb y x e) | inr t ↦ has_tail y x (xs ++ p ∷ []) (has_more y p xs t) ]
 
-has_end : (p : ℕ) (xs : List ℕ) → has p (xs ++ p ∷ []) ≡ true
+pub has_end : (p : ℕ) (xs : List ℕ) → has p (xs ++ p ∷ []) ≡ true
 has_end p [] = has_head p []
 has_end p (x ∷ xs) = has_tail p x (xs ++ p ∷ []) (has_end p xs)
 
@@ -26,7 +26,7 @@ promoted_there p xs h = cond-true (has p xs) (p ∷ without p xs) xs h
 pub promoted_absent : (p : ℕ) (xs : List ℕ) → has p xs ≡ false → promoted p xs ≡ xs
 promoted_absent p xs h = cond-false (has p xs) (p ∷ without p xs) xs h
 
-has-promoted : (y p : ℕ) (xs : List ℕ) → has p xs ≡ true → has y xs ≡ true → has y (promoted p xs) ≡ true
+pub has-promoted : (y p : ℕ) (xs : List ℕ) → has p xs ≡ true → has y xs ≡ true → has y (promoted p xs) ≡ true
 has-promoted y p xs hp hy =
     ap (has y) (promoted_there p xs hp)
     ∙ elim (cases_eq y p) [ inl e ↦ or_left (eqb y p) (has y (without p xs)) (eq-eqb y p e) | inr ne ↦ has_tail y p (without p xs) (has-without y p xs hy ne) ]
