@@ -1,9 +1,11 @@
 -- a walk along the places of a bucket
 use Rattle.std.proofs.Common.{◌≡◌, ℕ, zero, suc, ◌+◌, ◌<◌, Bool, true, false, List, [], ◌∷◌, length, cond, eqb, Option, Some, None, ◌⊎◌, inl, inr, refl, sym, ◌∙◌, ap, subst, arith}
-use Rattle.std.proofs.lemmas.Bool.{cases_eq, cases_Bool, eq-eqb, ne_eqb, cond-true, cond-false, false≢true}
+use Rattle.std.proofs.lemmas.Bool.{cases_eq, cases_Bool, eq-eqb, ne_eqb, cond-true, cond-false, false≢true, false_from_ne_true}
+use Rattle.std.specs.Option.{MatchOption}
 use Rattle.st_rules.specs.Cache.{has, AreDistinct}
 use Rattle.st_rules.proofs.Members.{has_head, has_tail, has_cases, differ_by_list}
-use Rattle.st_links.specs.Arena.{first_of, after}
+use Rattle.st_links.specs.Arena.{row, first_of, after, next_of, IsArena}
+use Rattle.st_links.proofs.Neighbours.{next_of_at}
 
 -- the places from p on
 abbrev pub from_place : ℕ → List ℕ → List ℕ
@@ -57,3 +59,35 @@ from_step p (x ∷ xs) dist h =
     skip : (x : ℕ) (xs : List ℕ) → AreDistinct (x ∷ xs) → (o : Option ℕ) → ((q : ℕ) → o ≡ Some q → has q xs ≡ true) → left_of o (x ∷ xs) ≡ left_of o xs
     skip x xs dist None within = refl
     skip x xs dist (Some q) within = cond-false (eqb q x) (x ∷ xs) (from_place q xs) (ne_eqb q x (differ_by_list q x xs (within q refl) dist.0))
+
+chain_here : (xs : List ℕ) → MatchOption (first_of xs) (Unit {0}) (λ p. has p xs ≡ true)
+chain_here [] = tt
+chain_here (x ∷ xs) = has_head x xs
+
+-- where a walk begins
+pub chain_first : (xs : List ℕ) (o : Option ℕ) → o ≡ first_of xs → MatchOption o (Unit {0}) (λ p. has p xs ≡ true) × ((q : ℕ) → has q xs ≡ true → has q (left_of o xs) ≡ true)
+chain_first xs o e =
+    (
+      subst (λ (p : Option ℕ). MatchOption p (Unit {0}) (λ (k : ℕ). has k xs ≡ true)) (sym e) (chain_here xs),
+      λ (q : ℕ) (h : has q xs ≡ true). ap (λ (p : Option ℕ). has q (left_of p xs)) e ∙ ap (has q) (left_of_first xs) ∙ h
+    )
+
+pub chain_behind : (p : ℕ) (xs : List ℕ) (o : Option ℕ) → o ≡ after p xs → MatchOption o (Unit {0}) (λ q. has q xs ≡ true)
+chain_behind p xs None e = tt
+chain_behind p xs (Some q) e = after_in p q xs (sym e)
+
+-- what was left and is not the place itself is left behind it
+pub chain_rest : (p q : ℕ) (xs : List ℕ) → AreDistinct xs → has p xs ≡ true → has q (from_place p xs) ≡ true → (q ≡ p → ⊥) → has q (left_of (after p xs) xs) ≡ true
+chain_rest p q xs dist h there ne =
+    elim (has_cases q p (left_of (after p xs) xs) (sym (ap (has q) (from_step p xs dist h)) ∙ there)) [ inl e ↦ absurd (ne e) | inr t ↦ t ]
+
+pub chain_shorter : (p : ℕ) (xs : List ℕ) → AreDistinct xs → has p xs ≡ true → length (left_of (after p xs) xs) < length (from_place p xs)
+chain_shorter p xs dist h = let long = ap (λ (ys : List ℕ). length ys) (from_step p xs dist h) in omega (arith, long)
+
+-- in an arena a list's place has its neighbour in that list
+pub next_in_row : (lists : List (List ℕ)) (n k p : ℕ) → IsArena lists n → k < length lists → has p (row lists k) ≡ true → next_of lists p ≡ after p (row lists k)
+next_in_row lists n k p arena below h =
+    next_of_at lists p k h
+    (λ (i : ℕ) (less : i < k).
+        false_from_ne_true (has p (row lists i))
+        (λ (t : has p (row lists i) ≡ true). let same : i ≡ k = arena.apart i k p (omega arith) below t h in absurd (omega arith)))

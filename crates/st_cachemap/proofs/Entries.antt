@@ -9,10 +9,10 @@ use Rattle.st_cachemap.specs.Cached.{place_in, without_cell, without_place}
 use Rattle.st_cachemap.specs.Sound.{entries_at}
 
 -- one step of a filter over entries
-skipped : (t : Bool) (e : ℕ × ℕ) (es : List (ℕ × ℕ)) → t ≡ true → cond (not t) (e ∷ es) es ≡ es
+pub skipped : (t : Bool) (e : ℕ × ℕ) (es : List (ℕ × ℕ)) → t ≡ true → cond (not t) (e ∷ es) es ≡ es
 skipped t e es h = cond-false (not t) (e ∷ es) es (ap not h)
 
-kept : (t : Bool) (e : ℕ × ℕ) (es : List (ℕ × ℕ)) → t ≡ false → cond (not t) (e ∷ es) es ≡ e ∷ es
+pub kept : (t : Bool) (e : ℕ × ℕ) (es : List (ℕ × ℕ)) → t ≡ false → cond (not t) (e ∷ es) es ≡ e ∷ es
 kept t e es h = cond-true (not t) (e ∷ es) es (ap not h)
 
 -- without a place

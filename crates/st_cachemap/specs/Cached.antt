@@ -1,5 +1,5 @@
 -- the cache list as clauses see it: the cells with their places, the one used last first
-use Rattle.std.specs.Prelude.{◌≡◌, ℕ, ◌<◌, ◌≤◌, true, not, List, [], ◌∷◌, length, map, take, filter, nat_eq, Option, Some, None}
+use Rattle.std.specs.Prelude.{◌≡◌, ℕ, ◌<◌, ◌≤◌, true, not, List, [], ◌∷◌, ◌++◌, length, map, take, filter, nat_eq, Option, Some, None}
 use Rattle.std.specs.Map.{lookup, keys_of, values_of}
 use Rattle.st_rules.specs.Cache.{has, fallen, counted, AreDistinct}
 use Rattle.st_cachemap.specs.declared.answer.Touch.{Touch}
@@ -60,3 +60,9 @@ pub record Missed (old new : Cached) (cell place : ℕ) (out : Option ℕ) : Typ
 abbrev pub MissedAt : Cached → Cached → ℕ → Touch → Type 0
 MissedAt old new cell (Hit place) = ⊥
 MissedAt old new cell (Miss place out) = Missed old new cell place out
+
+-- entries go over from one map to another, the last first
+pub record Handed (to from to_now from_now : Cached) : Type 0 where
+  pub all : from_now.entries ++ to_now.entries ≡ from.entries
+  pub to_rest : to_now ≡ record to { entries = to_now.entries }
+  pub from_rest : from_now ≡ record from { entries = from_now.entries }

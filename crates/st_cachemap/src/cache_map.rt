@@ -1,4 +1,4 @@
-ghost use Rattle.std.specs.Prelude.{◌≡◌, ◌+◌, ◌<◌, ◌≤◌, ◌↔◌, true, false, IsTrue, IfOk, OnOk, OnErr, IsSome, MatchOption, Some, None, [], ◌∷◌, ◌++◌, length, take};
+ghost use Rattle.std.specs.Prelude.{◌≡◌, ◌+◌, ◌<◌, ◌≤◌, ◌↔◌, true, false, IsTrue, IfOk, OnOk, OnErr, IsSome, MatchOption, Some, None, [], ◌∷◌, ◌++◌, ◌-◌, length, take, slice_get};
 ghost use Rattle.st_rules.specs.Cache.{has, touched, promoted, dropped, hits_after, misses_after, counted};
 ghost use Rattle.st_cachemap.specs.Cached.{Cached, cells_of, places_of, place_in, without_cell, without_place, fronted_at, touch_place, IsTouch, IsCached, MissedAt};
 
@@ -183,7 +183,6 @@ impl CacheMap {
         ensures cells { cells_of self.new ≡ promoted cell (cells_of self.old) }
         ensures same { self.new ≡ record self.old { entries = self.new.entries } }
         ensures places { MatchOption (place_in self.old.entries cell) (Unit {0}) (λ p. self.new.entries ≡ fronted_at cell p self.old.entries) }
-        ensures valid { IsCached self.new }
     {
         if let Some(place) = self.peek(cell) {
             self.move_front(place, cell);
@@ -194,7 +193,6 @@ impl CacheMap {
     pub fn drop_cell(&mut self, cell: u64)
         ensures entries { self.new ≡ record self.old { entries = without_cell cell self.old.entries } }
         ensures cells { cells_of self.new ≡ dropped cell (cells_of self.old) }
-        ensures valid { IsCached self.new }
     {
         if let Some(place) = self.peek(cell) {
             self.release(place);
@@ -205,7 +203,7 @@ impl CacheMap {
     pub fn clear(&mut self)
         ensures { self.new ≡ record { capacity = self.old.capacity; entries = []; hits = 0; misses = 0 } }
     {
-        while self.pop_last().is_some() {}
+        'cells: while self.pop_last().is_some() {}
         self.hits = 0;
         self.misses = 0;
     }
@@ -216,10 +214,11 @@ impl CacheMap {
         ensures ok { OnOk result (self.new ≡ record self.old { capacity = capacity }) }
         ensures err { OnErr result (self.new ≡ self.old) }
     {
+        let (hits, misses) = (self.hits, self.misses);
         let mut larger = CacheMap::make(alloc, capacity)?;
+        larger.hits = hits;
+        larger.misses = misses;
         larger.take_over(self);
-        larger.hits = self.hits;
-        larger.misses = self.misses;
         *self = larger;
         Ok(())
     }
@@ -227,11 +226,12 @@ impl CacheMap {
     /// Takes over the entries of another map, which is empty then.
     fn take_over(&mut self, other: &mut CacheMap)
         requires empty { self.old.entries ≡ [] }
+        requires valid { IsCached other.old }
         requires fits { other.old.capacity ≤ self.old.capacity }
         ensures taken { self.new ≡ record self.old { entries = other.old.entries } }
         ensures left { other.new ≡ record other.old { entries = [] } }
     {
-        while let Some((cell, place)) = other.pop_last() {
+        'cells: while let Some((cell, place)) = other.pop_last() {
             self.occupy(place, cell);
         }
     }
@@ -239,6 +239,7 @@ impl CacheMap {
     fn hit(&mut self, cell: u64, place: usize) -> Touch
         requires { place_in self.old.entries cell ≡ Some place }
         ensures answer { result ≡ Touch.Hit place }
+        ensures valid { IsCached self.new }
         ensures counted { self.new ≡ record self.old { entries = fronted_at cell place self.old.entries; hits = counted self.old.hits } }
     {
         self.move_front(place, cell);
@@ -249,15 +250,28 @@ impl CacheMap {
     fn miss(&mut self, cell: u64) -> Touch
         requires { has cell (cells_of self.old) ≡ false }
         ensures answer { MissedAt self.old self.new cell result }
+        ensures valid { IsCached self.new }
     {
-        let out = if self.len == self.cells.len() {
-            self.pop_last()
-        } else {
-            None
-        };
+        let out = self.make_room();
         let place = self.free_place();
         self.occupy(place, cell);
         self.misses = self.misses.saturating_add(1);
-        Touch::Miss(place, out.map(|e| e.0))
+        Touch::Miss(place, out)
+    }
+
+    /// Takes the last cell out of a full list.
+    fn make_room(&mut self) -> Option<u64>
+        ensures out { result ≡ slice_get (cells_of self.old) (self.old.capacity - 1) }
+        ensures kept { self.new.entries ≡ take (self.old.capacity - 1) self.old.entries }
+        ensures rest { self.new ≡ record self.old { entries = self.new.entries } }
+        ensures room { length self.new.entries < self.old.capacity }
+    {
+        if self.len < self.cells.len() {
+            return None;
+        }
+        match self.pop_last() {
+            Some((cell, _place)) => Some(cell),
+            None => unreachable!(),
+        }
     }
 }

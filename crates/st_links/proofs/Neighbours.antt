@@ -61,7 +61,7 @@ before_place n x p (y ∷ ys) small h =
     ]
 
 -- a search over the lists ends at the one that has the place
-next_of_at : (lists : List (List ℕ)) (p l : ℕ) → has p (row lists l) ≡ true → ((k : ℕ) → k < l → has p (row lists k) ≡ false) → next_of lists p ≡ after p (row lists l)
+pub next_of_at : (lists : List (List ℕ)) (p l : ℕ) → has p (row lists l) ≡ true → ((k : ℕ) → k < l → has p (row lists k) ≡ false) → next_of lists p ≡ after p (row lists l)
 next_of_at [] p l h first = absurd (false≢true h)
 next_of_at (xs ∷ lists) p zero h first = cond-true (has p xs) (after p xs) (next_of lists p) h
 next_of_at (xs ∷ lists) p (suc l) h first =
