@@ -1,13 +1,13 @@
 -- what the calls have to show, from what the fields were and what the arenas' calls ensure
-use Rattle.std.proofs.Common.{◌≡◌, ℕ, ◌+◌, ◌<◌, ◌≤◌, suc, Bool, true, false, List, [], ◌∷◌, ◌++◌, length, get_or, set, Option, Some, None, refl, sym, ◌∙◌, ap, subst, arith}
+use Rattle.std.proofs.Common.{◌≡◌, ℕ, ◌+◌, ◌<◌, ◌≤◌, suc, Bool, true, false, List, [], ◌∷◌, length, get_or, set, Some, refl, sym, ◌∙◌, ap, subst}
 use Rattle.std.specs.Map.{keys_of, values_of}
-use Rattle.std.proofs.lemmas.Bool.{both_ways, false_from_ne_true}
+use Rattle.std.proofs.lemmas.Bool.{both_ways}
 use Rattle.std.proofs.lemmas.List.{length-set, get_or-set_same}
 use Rattle.st_rules.specs.Cache.{has, without, AreDistinct}
-use Rattle.st_links.specs.Arena.{Arena, row, is_linked, unlinked, fronted, pushed_front, pushed_back, IsArena}
+use Rattle.st_links.specs.Arena.{Arena, unlinked, fronted, pushed_front, pushed_back, IsArena}
 use Rattle.st_cachemap.specs.Cached.{Cached, cells_of, places_of, place_in, without_cell, without_place, fronted_at, IsCached}
 use Rattle.st_cachemap.specs.Sound.{Sound, used, bucket_of, entries_at}
-use Rattle.st_cachemap.proofs.Entries.{places_at, cell_at, cell_in, entries-without, entries-without_cell, entries-set, cells_differ_at, found_cell}
+use Rattle.st_cachemap.proofs.Entries.{places_at, cell_in, entries-without, entries-without_cell, entries-set, cells_differ_at, found_cell}
 use Rattle.st_cachemap.proofs.Keeps.{used_within, len_fits, released, released_used, occupied, occupied_used, moved_front, fronted_used}
 
 abbrev pub seen : ℕ → List (ℕ × ℕ) → ℕ → ℕ → Cached

@@ -1,5 +1,5 @@
 -- a walk along the places of a bucket
-use Rattle.std.proofs.Common.{◌≡◌, ℕ, zero, suc, ◌+◌, ◌<◌, Bool, true, false, List, [], ◌∷◌, length, cond, eqb, Option, Some, None, ◌⊎◌, inl, inr, refl, sym, ◌∙◌, ap, subst, arith}
+use Rattle.std.proofs.Common.{◌≡◌, ℕ, ◌<◌, true, List, [], ◌∷◌, length, cond, eqb, Option, Some, None, inl, inr, refl, sym, ◌∙◌, ap, subst, arith}
 use Rattle.std.proofs.lemmas.Bool.{cases_eq, cases_Bool, eq-eqb, ne_eqb, cond-true, cond-false, false≢true, false_from_ne_true}
 use Rattle.std.specs.Option.{MatchOption}
 use Rattle.st_rules.specs.Cache.{has, AreDistinct}
@@ -66,11 +66,10 @@ chain_here (x ∷ xs) = has_head x xs
 
 -- where a walk begins
 pub chain_first : (xs : List ℕ) (o : Option ℕ) → o ≡ first_of xs → MatchOption o (Unit {0}) (λ p. has p xs ≡ true) × ((q : ℕ) → has q xs ≡ true → has q (left_of o xs) ≡ true)
-chain_first xs o e =
-    (
-      subst (λ (p : Option ℕ). MatchOption p (Unit {0}) (λ (k : ℕ). has k xs ≡ true)) (sym e) (chain_here xs),
-      λ (q : ℕ) (h : has q xs ≡ true). ap (λ (p : Option ℕ). has q (left_of p xs)) e ∙ ap (has q) (left_of_first xs) ∙ h
-    )
+chain_first xs o e = (
+  subst (λ (p : Option ℕ). MatchOption p (Unit {0}) (λ (k : ℕ). has k xs ≡ true)) (sym e) (chain_here xs),
+  λ (q : ℕ) (h : has q xs ≡ true). ap (λ (p : Option ℕ). has q (left_of p xs)) e ∙ ap (has q) (left_of_first xs) ∙ h,
+)
 
 pub chain_behind : (p : ℕ) (xs : List ℕ) (o : Option ℕ) → o ≡ after p xs → MatchOption o (Unit {0}) (λ q. has q xs ≡ true)
 chain_behind p xs None e = tt
@@ -89,5 +88,5 @@ pub next_in_row : (lists : List (List ℕ)) (n k p : ℕ) → IsArena lists n �
 next_in_row lists n k p arena below h =
     next_of_at lists p k h
     (λ (i : ℕ) (less : i < k).
-        false_from_ne_true (has p (row lists i))
-        (λ (t : has p (row lists i) ≡ true). let same : i ≡ k = arena.apart i k p (omega arith) below t h in absurd (omega arith)))
+    false_from_ne_true (has p (row lists i))
+    (λ (t : has p (row lists i) ≡ true). let same : i ≡ k = arena.apart i k p (omega arith) below t h in absurd (omega arith)))

@@ -1,10 +1,10 @@
 -- entries as the cells at a list of places
-use Rattle.std.proofs.Common.{◌≡◌, ℕ, suc, ◌+◌, ◌<◌, ◌≤◌, Bool, true, false, not, List, [], ◌∷◌, ◌++◌, length, map, get_or, set, take, cond, eqb, Option, Some, None, ◌⊎◌, inl, inr, refl, sym, ◌∙◌, ap, subst, arith}
+use Rattle.std.proofs.Common.{◌≡◌, ℕ, ◌<◌, ◌≤◌, Bool, true, false, not, List, [], ◌∷◌, length, get_or, set, cond, eqb, Some, None, inl, inr, refl, sym, ◌∙◌, ap, subst, arith}
 use Rattle.std.specs.Map.{keys_of, values_of}
-use Rattle.std.proofs.lemmas.Bool.{cases_eq, cases_Bool, both_ways, or_left, eq-eqb, ne_eqb, eqb-true, eqb-false, cond-true, cond-false, false≢true, false_from_ne_true}
+use Rattle.std.proofs.lemmas.Bool.{cases_eq, cases_Bool, or_left, eq-eqb, ne_eqb, eqb-true, eqb-false, cond-true, cond-false, false≢true, false_from_ne_true}
 use Rattle.std.proofs.lemmas.List.{get_or-set_other}
 use Rattle.st_rules.specs.Cache.{has, without, AreDistinct}
-use Rattle.st_rules.proofs.Members.{has_head, has_tail, has_cases, lacks_parts, lacks_from, differ_by_list, without_here, without_there, without_absent}
+use Rattle.st_rules.proofs.Members.{has_head, has_tail, has_cases, lacks_parts, lacks_from, differ_by_list, without_here, without_there}
 use Rattle.st_cachemap.specs.Cached.{place_in, without_cell, without_place}
 use Rattle.st_cachemap.specs.Sound.{entries_at}
 

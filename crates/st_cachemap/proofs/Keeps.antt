@@ -1,16 +1,14 @@
 -- the fields stay sound through each change
-use Rattle.std.proofs.Common.{◌≡◌, ℕ, zero, suc, ◌+◌, ◌-◌, ◌<◌, ◌≤◌, ◌≢◌, Bool, true, false, List, [], ◌∷◌, ◌++◌, length, get_or, set, replicate, map, eqb, ◌⊎◌, inl, inr, refl, sym, ◌∙◌, ap, subst, arith}
-use Rattle.std.proofs.Math.ListN.{get_or-map}
-use Rattle.std.proofs.lemmas.Bool.{cases_eq, cases_Bool, both_ways, or_left, eq-eqb, cond-true, false≢true, false_from_ne_true}
+use Rattle.std.proofs.Common.{◌≡◌, ℕ, zero, suc, ◌+◌, ◌<◌, ◌≤◌, true, false, List, [], ◌∷◌, ◌++◌, length, get_or, set, replicate, eqb, ◌⊎◌, inl, inr, refl, sym, ◌∙◌, ap, subst, arith}
+use Rattle.std.proofs.lemmas.Bool.{cases_eq, cases_Bool, both_ways, or_left, eq-eqb, false≢true, false_from_ne_true}
 use Rattle.std.proofs.lemmas.List.{get_or-set_other, get_or-set_same, length-set, length-map, length-replicate}
 use Rattle.st_rules.specs.Cache.{has, without, promoted, AreDistinct}
-use Rattle.st_rules.proofs.Members.{has_head, has_tail, has_cases, lacks_parts, lacks_itself, has_of_without, has-without, without_here, without_there, without_absent}
+use Rattle.st_rules.proofs.Members.{has_head, has_tail, has_cases, lacks_itself, has_of_without, has-without, without_here, without_there, without_absent}
 use Rattle.st_links.specs.Arena.{Arena, row, is_linked, unlinked, fronted, pushed_front, pushed_back, IsArena}
 use Rattle.st_links.proofs.Moves.{linked_in, linked_from, row-unlinked, row-fronted}
 use Rattle.st_links.proofs.Rows.{length_of_distinct}
 use Rattle.st_links.proofs.Ties.{has_more, has_end, promoted_there, promoted_absent, has-promoted}
-use Rattle.st_cachemap.specs.Sound.{Sound, IsUnused, used, bucket_of, entries_at}
-use Rattle.st_cachemap.proofs.Entries.{Unique}
+use Rattle.st_cachemap.specs.Sound.{Sound, IsUnused, used, bucket_of}
 
 pub length-without : (p : ℕ) (xs : List ℕ) → AreDistinct xs → has p xs ≡ true → length (without p xs) + 1 ≡ length xs
 length-without p [] dist h = absurd (false≢true h)

@@ -1,19 +1,18 @@
 -- what touch and its parts leave
-use Rattle.std.proofs.Common.{◌≡◌, ℕ, zero, suc, ◌+◌, ◌-◌, ◌<◌, ◌≤◌, Bool, true, false, List, [], ◌∷◌, ◌++◌, length, map, get_or, take, eqb, Option, Some, None, ◌⊎◌, inl, inr, refl, sym, ◌∙◌, ap, subst, arith}
+use Rattle.std.proofs.Common.{◌≡◌, ℕ, zero, suc, ◌+◌, ◌-◌, ◌<◌, ◌≤◌, true, false, List, [], ◌∷◌, ◌++◌, length, get_or, take, eqb, Option, Some, None, inl, inr, refl, sym, ◌∙◌, ap, subst, arith}
 use Rattle.std.specs.List.{slice_get}
 use Rattle.std.specs.Map.{keys_of, values_of}
 use Rattle.std.proofs.lemmas.Bool.{cases_eq, both_ways, or_left, eq-eqb, ne_eqb, cond-true, cond-false, false≢true, false_from_ne_true}
 use Rattle.std.proofs.lemmas.Map.Steps.{le-length_from_below}
-use Rattle.st_rules.specs.Cache.{has, without, touched, fallen, hits_after, misses_after, counted, promoted, AreDistinct}
+use Rattle.st_rules.specs.Cache.{has, without, touched, hits_after, misses_after, counted, promoted, AreDistinct}
 use Rattle.st_rules.proofs.Members.{has_head, has_tail, has_cases, differ_by_list, lacks_parts, without_here, without_there}
-use Rattle.st_links.specs.Arena.{Arena, row, is_linked, first_of, last_of, IsArena}
+use Rattle.st_links.specs.Arena.{Arena, row, first_of, last_of}
 use Rattle.st_links.proofs.Moves.{linked_in}
 use Rattle.st_cachemap.specs.declared.answer.Touch.{Touch}
 use Rattle.st_cachemap.specs.declared.answer.Touch.TheVariants.{Hit, Miss}
 use Rattle.st_cachemap.specs.Cached.{Cached, cells_of, places_of, place_in, without_cell, without_place, fronted_at, touch_place, IsTouch, IsCached, Missed, MissedAt}
 use Rattle.st_cachemap.specs.Sound.{Sound, used, entries_at}
 use Rattle.st_cachemap.proofs.Entries.{skipped, kept, places_at, entries-without, found_place, keys-without_cell, without_cell_absent, without_cell_shorter}
-use Rattle.st_cachemap.proofs.Keeps.{used_within}
 use Rattle.st_cachemap.proofs.Calls.{seen, in_use}
 
 pub last_none : (xs : List ℕ) → last_of xs ≡ None → xs ≡ []
@@ -28,17 +27,15 @@ last_none (x ∷ xs) e = absurd (some_last x xs e)
 pub last_some : (p : ℕ) (xs : List ℕ) → AreDistinct xs → last_of xs ≡ Some p → (has p xs ≡ true) × (xs ≡ without p xs ++ p ∷ [])
 last_some p [] dist e = absurd (let bad : None ≡ Some p = e in cc)
 last_some p (x ∷ []) dist e =
-    let is : x ≡ p = (let same : Some x ≡ Some p = e in cc) in
-    (
+    let is : x ≡ p = (let same : Some x ≡ Some p = e in cc) in (
       ap (λ (z : ℕ). has z (x ∷ [])) (sym is) ∙ has_head x [],
-      ap (λ (z : ℕ). z ∷ []) is ∙ ap (λ (ys : List ℕ). ys ++ p ∷ []) (sym (subst (λ (z : ℕ). without p (z ∷ []) ≡ []) (sym is) (without_here p [])))
+      ap (λ (z : ℕ). z ∷ []) is ∙ ap (λ (ys : List ℕ). ys ++ p ∷ []) (sym (subst (λ (z : ℕ). without p (z ∷ []) ≡ []) (sym is) (without_here p []))),
     )
 last_some p (x ∷ y ∷ ys) dist e =
     let rest = last_some p (y ∷ ys) dist.1 (sym (ap (slice_get (x ∷ y ∷ ys)) (let k : length (x ∷ y ∷ ys) - 1 ≡ suc (length (y ∷ ys) - 1) = omega arith in k)) ∙ e) in
-    let ne : p ≡ x → ⊥ = differ_by_list p x (y ∷ ys) rest.0 dist.0 in
-    (
+    let ne : p ≡ x → ⊥ = differ_by_list p x (y ∷ ys) rest.0 dist.0 in (
       has_tail p x (y ∷ ys) rest.0,
-      ap (λ (zs : List ℕ). x ∷ zs) rest.1 ∙ ap (λ (zs : List ℕ). zs ++ p ∷ []) (sym (without_there p x (y ∷ ys) ne))
+      ap (λ (zs : List ℕ). x ∷ zs) rest.1 ∙ ap (λ (zs : List ℕ). zs ++ p ∷ []) (sym (without_there p x (y ∷ ys) ne)),
     )
 
 entries_append : (cells : List ℕ) (xs : List ℕ) (p : ℕ) → entries_at cells (xs ++ p ∷ []) ≡ entries_at cells xs ++ (get_or cells p 0, p) ∷ []
@@ -50,14 +47,13 @@ module _ {order buckets : Arena} {cells : List ℕ} {len : ℕ} {h m : ℕ} {now
   popped s view p cell last cell_is new new_is =
       let at = last_some p (used order) (s.order_arena.once 0) last in
       let now_is : entries_at cells (used order) ≡ now.entries = ap (λ (v : Cached). v.entries) view in
-      let rest : new.entries ≡ without_place p now.entries = ap (λ (v : Cached). v.entries) new_is in
-      (
+      let rest : new.entries ≡ without_place p now.entries = ap (λ (v : Cached). v.entries) new_is in (
         sym now_is
-        ∙ ap (entries_at cells) at.1
-        ∙ entries_append cells (without p (used order)) p
-        ∙ ap (λ (es : List (ℕ × ℕ)). es ++ (get_or cells p 0, p) ∷ []) (entries-without cells p (used order) ∙ ap (without_place p) now_is ∙ sym rest)
-        ∙ ap (λ (c : ℕ). new.entries ++ (c, p) ∷ []) (sym cell_is),
-        new_is ∙ ap (λ (es : List (ℕ × ℕ)). record now { entries = es }) (sym rest)
+            ∙ ap (entries_at cells) at.1
+            ∙ entries_append cells (without p (used order)) p
+            ∙ ap (λ (es : List (ℕ × ℕ)). es ++ (get_or cells p 0, p) ∷ []) (entries-without cells p (used order) ∙ ap (without_place p) now_is ∙ sym rest)
+            ∙ ap (λ (c : ℕ). new.entries ++ (c, p) ∷ []) (sym cell_is),
+        new_is ∙ ap (λ (es : List (ℕ × ℕ)). record now { entries = es }) (sym rest),
       )
 
 module _ {order buckets : Arena} {cells : List ℕ} {len : ℕ} where
@@ -66,14 +62,14 @@ module _ {order buckets : Arena} {cells : List ℕ} {len : ℕ} where
   all_used s none =
       le-length_from_below (used order) (length cells)
       (λ (q : ℕ) (b : q < length cells).
-          let at = linked_in order.lists q (s.known q b) in
-          let k_two : at.0 < 2 = omega (arith, s.order_lists, at.1) in
-          elim (cases_eq at.0 0) [
-            inl e ↦ ap (λ (i : ℕ). has q (row order.lists i)) (sym e) ∙ at.2
-          | inr ne ↦
-              let one : at.0 ≡ 1 = omega (arith, ne) in
-              absurd (false≢true (sym (ap (has q) (empty (row order.lists 1) none)) ∙ ap (λ (i : ℕ). has q (row order.lists i)) (sym one) ∙ at.2))
-          ])
+      let at = linked_in order.lists q (s.known q b) in
+      let k_two : at.0 < 2 = omega (arith, s.order_lists, at.1) in
+      elim (cases_eq at.0 0) [
+        | inl e ↦ ap (λ (i : ℕ). has q (row order.lists i)) (sym e) ∙ at.2
+        | inr ne ↦
+            let one : at.0 ≡ 1 = omega (arith, ne) in
+            absurd (false≢true (sym (ap (has q) (empty (row order.lists 1) none)) ∙ ap (λ (i : ℕ). has q (row order.lists i)) (sym one) ∙ at.2))
+      ])
     where
       empty : (xs : List ℕ) → first_of xs ≡ None → xs ≡ []
       empty [] e = refl
@@ -107,8 +103,8 @@ pub hit_touched : (old new : Cached) (cell p : ℕ) → IsCached old → place_i
 hit_touched old new cell p valid found new_is =
     let there : has cell (cells_of old) ≡ true = (found_place old.entries cell p found).0 in
     let es_is : new.entries ≡ take old.capacity (fronted_at cell p old.entries) =
-        ap (λ (v : Cached). v.entries) new_is
-        ∙ sym (take_whole old.capacity (fronted_at cell p old.entries) (omega (arith, without_cell_shorter cell old.entries there, valid.fits))) in
+    ap (λ (v : Cached). v.entries) new_is
+    ∙ sym (take_whole old.capacity (fronted_at cell p old.entries) (omega (arith, without_cell_shorter cell old.entries there, valid.fits))) in
     record {
       answer = found;
       entries = es_is;
@@ -121,7 +117,7 @@ hit_touched old new cell p valid found new_is =
 pub miss_touched : (old new : Cached) (cell p : ℕ) (out : Option ℕ) → place_in old.entries cell ≡ None → has cell (cells_of old) ≡ false → Missed old new cell p out → Touched old new cell (Miss p out)
 miss_touched old new cell p out none lacks missed =
     let es_is : new.entries ≡ take old.capacity (fronted_at cell p old.entries) =
-        missed.entries ∙ ap (λ (es : List (ℕ × ℕ)). take old.capacity ((cell, p) ∷ es)) (sym (without_cell_absent cell old.entries lacks)) in
+    missed.entries ∙ ap (λ (es : List (ℕ × ℕ)). take old.capacity ((cell, p) ∷ es)) (sym (without_cell_absent cell old.entries lacks)) in
     record {
       answer = (none, missed.out_is);
       entries = es_is;
@@ -159,8 +155,8 @@ module _ {order buckets : Arena} {cells : List ℕ} {len : ℕ} {h m : ℕ} {now
   free_unused s view p first =
       false_from_ne_true (has p (places_of now))
       (λ (t : has p (places_of now) ≡ true).
-          let same : 0 ≡ 1 = s.order_arena.apart 0 1 p (omega (arith, s.order_lists)) (omega (arith, s.order_lists)) (in_use s view p true t) (first_has p (row order.lists 1) first) in
-          absurd (omega arith))
+      let same : 0 ≡ 1 = s.order_arena.apart 0 1 p (omega (arith, s.order_lists)) (omega (arith, s.order_lists)) (in_use s view p true t) (first_has p (row order.lists 1) first) in
+      absurd (omega arith))
 
   pub listed : Sound order buckets cells len → seen (length cells) (entries_at cells (used order)) h m ≡ now → (p : ℕ) → has p (used order) ≡ true → has p (places_of now) ≡ true
   listed s view p t = sym (ap (λ (v : Cached). has p (places_of v)) view) ∙ ap (has p) (places_at cells (used order)) ∙ t
@@ -180,11 +176,10 @@ longer (f ∷ mid) e = omega (arith, longer mid e)
 pub room_made : (es mid : List (ℕ × ℕ)) (cell p cap : ℕ) → es ≡ mid ++ (cell, p) ∷ [] → length es ≡ cap → (Some cell ≡ slice_get (keys_of es) (cap - 1)) × (mid ≡ take (cap - 1) es) × (length mid < cap)
 room_made es mid cell p cap es_is full =
     let long : length es ≡ length mid + 1 = ap (λ (xs : List (ℕ × ℕ)). length xs) es_is ∙ longer mid (cell, p) in
-    let k : cap - 1 ≡ length mid = omega arith in
-    (
+    let k : cap - 1 ≡ length mid = omega arith in (
       sym (ap (slice_get (keys_of es)) k ∙ ap (λ (xs : List (ℕ × ℕ)). slice_get (keys_of xs) (length mid)) es_is ∙ end_key mid (cell, p)),
       sym (ap (λ (n : ℕ). take n es) k ∙ ap (take (length mid)) es_is ∙ take_front mid (cell, p)),
-      omega arith
+      omega arith,
     )
 
 has_take : (x n : ℕ) (xs : List ℕ) → has x (take n xs) ≡ true → has x xs ≡ true
@@ -238,17 +233,17 @@ pub without_same : (cell p : ℕ) (es : List (ℕ × ℕ)) → AreDistinct (keys
 without_same cell p [] dk dv found = refl
 without_same cell p (e ∷ es) dk dv found =
     elim (cases_eq cell e.0) [
-      inl same ↦
-        let is : p ≡ e.1 = (let both : Some e.1 ≡ Some p = sym (cond-true (eqb cell e.0) (Some e.1) (place_in es cell) (eq-eqb cell e.0 same)) ∙ found in cc) in
-        skipped (eqb p e.1) e (without_place p es) (eq-eqb p e.1 is)
-        ∙ without_place_absent p es (ap (λ (z : ℕ). has z (values_of es)) is ∙ dv.0)
-        ∙ sym (skipped (eqb cell e.0) e (without_cell cell es) (eq-eqb cell e.0 same) ∙ without_cell_absent cell es (ap (λ (z : ℕ). has z (keys_of es)) same ∙ dk.0))
-    | inr ne ↦
-        let rest : place_in es cell ≡ Some p = sym (cond-false (eqb cell e.0) (Some e.1) (place_in es cell) (ne_eqb cell e.0 ne)) ∙ found in
-        let pe : p ≡ e.1 → ⊥ = differ_by_list p e.1 (values_of es) (found_place es cell p rest).1 dv.0 in
-        kept (eqb p e.1) e (without_place p es) (ne_eqb p e.1 pe)
-        ∙ ap (λ (fs : List (ℕ × ℕ)). e ∷ fs) (without_same cell p es dk.1 dv.1 rest)
-        ∙ sym (kept (eqb cell e.0) e (without_cell cell es) (ne_eqb cell e.0 ne))
+      | inl same ↦
+          let is : p ≡ e.1 = (let both : Some e.1 ≡ Some p = sym (cond-true (eqb cell e.0) (Some e.1) (place_in es cell) (eq-eqb cell e.0 same)) ∙ found in cc) in
+          skipped (eqb p e.1) e (without_place p es) (eq-eqb p e.1 is)
+          ∙ without_place_absent p es (ap (λ (z : ℕ). has z (values_of es)) is ∙ dv.0)
+          ∙ sym (skipped (eqb cell e.0) e (without_cell cell es) (eq-eqb cell e.0 same) ∙ without_cell_absent cell es (ap (λ (z : ℕ). has z (keys_of es)) same ∙ dk.0))
+      | inr ne ↦
+          let rest : place_in es cell ≡ Some p = sym (cond-false (eqb cell e.0) (Some e.1) (place_in es cell) (ne_eqb cell e.0 ne)) ∙ found in
+          let pe : p ≡ e.1 → ⊥ = differ_by_list p e.1 (values_of es) (found_place es cell p rest).1 dv.0 in
+          kept (eqb p e.1) e (without_place p es) (ne_eqb p e.1 pe)
+          ∙ ap (λ (fs : List (ℕ × ℕ)). e ∷ fs) (without_same cell p es dk.1 dv.1 rest)
+          ∙ sym (kept (eqb cell e.0) e (without_cell cell es) (ne_eqb cell e.0 ne))
     ]
 
 -- of entries without repeats, those behind one lack its cell and its place

@@ -1,6 +1,6 @@
-use Rattle.std.proofs.Common.{◌≡◌, ◌∙◌, ℕ, List, sym, ap}
+use Rattle.std.proofs.Common.{◌∙◌, ℕ, List, sym, ap}
 use Rattle.std.specs.Map.{keys_of}
-use Rattle.st_cachemap.specs.Cached.{Cached, without_cell}
+use Rattle.st_cachemap.specs.Cached.{Cached}
 use Rattle.st_cachemap.proofs.Entries.{found_place, no_place, without_cell_absent, keys-without_cell}
 use Rattle.st_cachemap.proofs.Touches.{without_same}
 use Rattle.st_cachemap.proofs.cache_map.CacheMap.drop_cell.Goals as goal
@@ -12,7 +12,7 @@ pub returns-in-Some-clause-entries : goal.returns-in-Some-clause-entries
 returns-in-Some-clause-entries c =
     c.release.ensures
     ∙ ap (λ (es : List (ℕ × ℕ)). record c.args.self.now { entries = es })
-      (without_same c.args.cell c.in-Some.place c.args.self.now.entries c.peek.ensures.valid.cells_differ c.peek.ensures.valid.places_differ (sym c.peek.ensures.place ∙ c.in-Some.is))
+    (without_same c.args.cell c.in-Some.place c.args.self.now.entries c.peek.ensures.valid.cells_differ c.peek.ensures.valid.places_differ (sym c.peek.ensures.place ∙ c.in-Some.is))
 
 pub returns-in-Some-clause-cells : goal.returns-in-Some-clause-cells
 returns-in-Some-clause-cells c =

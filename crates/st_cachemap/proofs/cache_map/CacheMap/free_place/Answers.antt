@@ -1,4 +1,4 @@
-use Rattle.std.proofs.Common.{◌≡◌, ◌∙◌, sym}
+use Rattle.std.proofs.Common.{◌∙◌, sym}
 use Rattle.st_cachemap.proofs.Touches.{has_room, free_within, free_unused}
 use Rattle.st_cachemap.proofs.cache_map.CacheMap.free_place.Goals as goal
 

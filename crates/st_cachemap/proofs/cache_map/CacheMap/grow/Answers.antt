@@ -1,4 +1,4 @@
-use Rattle.std.proofs.Common.{◌≡◌, ◌<◌, length, ap, arith}
+use Rattle.std.proofs.Common.{◌≡◌, length, ap, arith}
 use Rattle.st_cachemap.specs.Cached.{Cached}
 use Rattle.st_cachemap.proofs.Calls.{IsCached-from}
 use Rattle.st_cachemap.proofs.cache_map.CacheMap.grow.Goals as goal

@@ -1,4 +1,4 @@
-use Rattle.std.proofs.Common.{◌≡◌, ◌≤◌, ℕ, ap, subst}
+use Rattle.std.proofs.Common.{◌≤◌, ℕ, ap, subst}
 use Rattle.st_cachemap.specs.Cached.{Cached}
 use Rattle.st_cachemap.proofs.Keeps.{len_fits}
 use Rattle.st_cachemap.proofs.cache_map.CacheMap.len.Goals as goal

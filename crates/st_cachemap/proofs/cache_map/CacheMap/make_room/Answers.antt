@@ -1,4 +1,4 @@
-use Rattle.std.proofs.Common.{◌≡◌, ◌∙◌, sym, ap, length, arith}
+use Rattle.std.proofs.Common.{◌≡◌, ap, length, arith}
 use Rattle.st_cachemap.specs.Cached.{Cached}
 use Rattle.st_cachemap.proofs.Calls.{IsCached-from}
 use Rattle.st_cachemap.proofs.Touches.{entry_count, room_made}

@@ -1,4 +1,3 @@
-use Rattle.std.proofs.Common.{◌≡◌}
 use Rattle.st_cachemap.proofs.Keeps.{used_linked}
 use Rattle.st_cachemap.proofs.Calls.{at_cell, front_done}
 use Rattle.st_cachemap.proofs.cache_map.CacheMap.move_front.Goals as goal

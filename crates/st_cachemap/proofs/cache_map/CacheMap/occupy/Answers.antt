@@ -1,6 +1,6 @@
-use Rattle.std.proofs.Common.{◌≡◌, ◌+◌, ◌<◌, ◌≤◌, ℕ, List, length, true, false, ap, sym, subst, ◌∙◌, arith}
+use Rattle.std.proofs.Common.{◌≡◌, ◌<◌, ℕ, length, false, ap, subst, ◌∙◌, arith}
 use Rattle.st_links.specs.Arena.{Arena, is_linked}
-use Rattle.st_cachemap.specs.Sound.{used, bucket_of}
+use Rattle.st_cachemap.specs.Sound.{bucket_of}
 use Rattle.st_cachemap.proofs.Keeps.{unfiled, free_after, len_fits}
 use Rattle.st_cachemap.proofs.Calls.{in_use, occupy_done}
 use Rattle.st_cachemap.proofs.cache_map.CacheMap.occupy.Goals as goal

@@ -1,4 +1,4 @@
-use Rattle.std.proofs.Common.{◌≡◌, ◌<◌, ℕ, ◌∙◌, [], sym, ap, subst, refl}
+use Rattle.std.proofs.Common.{◌<◌, ℕ, ◌∙◌, sym, ap, subst, refl}
 use Rattle.st_links.proofs.Calls.{read_at}
 use Rattle.st_cachemap.specs.Cached.{Cached}
 use Rattle.st_cachemap.specs.Sound.{entries_at, used}
@@ -17,11 +17,10 @@ release-requires c =
     (last_some c.in-Some.place (used c.self.inside.order) (c.self.invariant.order_arena.once 0) (sym c.last.ensures ∙ c.in-Some.is)).0
 
 pub returns-in-None : goal.returns-in-None
-returns-in-None c =
-    (
-      sym (ap (λ (v : Cached). v.entries) c.self.view_is) ∙ ap (entries_at c.self.inside.cells.items) (last_none (used c.self.inside.order) (sym c.last.ensures ∙ c.in-None.is)),
-      refl
-    )
+returns-in-None c = (
+  sym (ap (λ (v : Cached). v.entries) c.self.view_is) ∙ ap (entries_at c.self.inside.cells.items) (last_none (used c.self.inside.order) (sym c.last.ensures ∙ c.in-None.is)),
+  refl,
+)
 
 pub returns-in-Some : goal.returns-in-Some
 returns-in-Some c =

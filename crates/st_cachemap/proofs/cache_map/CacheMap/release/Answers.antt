@@ -1,8 +1,8 @@
-use Rattle.std.proofs.Common.{◌≡◌, ◌+◌, ◌-◌, ◌<◌, ℕ, List, length, true, false, ap, sym, subst, ◌∙◌, arith}
+use Rattle.std.proofs.Common.{◌≡◌, ◌+◌, ◌-◌, ◌<◌, ℕ, true, ap, sym, subst, ◌∙◌, arith}
 use Rattle.st_rules.specs.Cache.{has}
 use Rattle.st_links.specs.Arena.{Arena, is_linked}
 use Rattle.st_cachemap.specs.Sound.{used}
-use Rattle.st_cachemap.proofs.Keeps.{used_linked, used_within, free_after, length-without}
+use Rattle.st_cachemap.proofs.Keeps.{used_linked, free_after, length-without}
 use Rattle.st_cachemap.proofs.Calls.{in_use, release_done}
 use Rattle.st_cachemap.proofs.cache_map.CacheMap.release.Goals as goal
 

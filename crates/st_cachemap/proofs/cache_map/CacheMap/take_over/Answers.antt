@@ -1,4 +1,4 @@
-use Rattle.std.proofs.Common.{◌≡◌, ◌<◌, ◌≤◌, ◌∙◌, ◌++◌, ℕ, List, true, sym, ap, subst, arith}
+use Rattle.std.proofs.Common.{◌≡◌, ◌<◌, ◌∙◌, ◌++◌, ℕ, List, sym, ap, subst, arith}
 use Rattle.std.specs.Map.{keys_of, values_of}
 use Rattle.st_rules.specs.Cache.{has, AreDistinct}
 use Rattle.st_cachemap.specs.Cached.{Cached}

@@ -1,4 +1,4 @@
-use Rattle.std.proofs.Common.{◌≡◌, ◌∙◌, sym}
+use Rattle.std.proofs.Common.{◌∙◌, sym}
 use Rattle.st_cachemap.proofs.Entries.{no_place}
 use Rattle.st_cachemap.proofs.Touches.{hit_touched, miss_all}
 use Rattle.st_cachemap.proofs.cache_map.CacheMap.touch.Goals as goal
