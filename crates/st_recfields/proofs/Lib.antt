@@ -1,2 +1,2 @@
 pub mod RowsLemmas
-pub mod TextsLemmas
+pub mod Spelled

@@ -119,8 +119,5 @@ same_rows fits text fields w has back (x ∷ xs) (y ∷ ys) u v fx fy size e =
 
 -- ---- a text that is put together front to back
 
-pub front_and : (n k : ℕ) (old new front piece : List ℕ) → take n old ≡ front → take (n + k) new ≡ take n old ++ piece → take (n + k) new ≡ front ++ piece
-front_and n k old new front piece before put = put ∙ ap (λ (l : List ℕ). l ++ piece) before
-
 pub all_of_it : (n : ℕ) (bytes text : List ℕ) → length bytes ≡ n → take n bytes ≡ text → bytes ≡ text
 all_of_it n bytes text size front = sym (take_all n bytes (omega arith)) ∙ front

@@ -5,9 +5,13 @@
 #![tactic(auto)]
 
 mod fault;
+mod fs_rows;
+mod pool_rows;
 mod row;
 mod texts;
 
 pub use fault::RecFault;
+pub use fs_rows::FS_WIDTH;
+pub use pool_rows::{DEV_WIDTH, SEGMENT_WIDTH};
 pub use row::{Row, put_rows, read_row, read_rows};
 pub use texts::{TEXT_ROOM, name_of, path_of, put_text, text_at};

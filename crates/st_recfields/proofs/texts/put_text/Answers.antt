@@ -1,5 +1,5 @@
 use Rattle.std.proofs.Common.{length, refl}
-use Rattle.st_recfields.proofs.TextsLemmas.{filled_front, zeros_left}
+use Rattle.st_recfields.specs.TextLaws.{filled_front, zeros_left}
 use Rattle.st_recfields.proofs.texts.put_text.Goals as goal
 
 pub returns-clause-front : goal.returns-clause-front
