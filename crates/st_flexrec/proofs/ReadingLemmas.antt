@@ -137,3 +137,25 @@ with_head bytes front rest head (Err NotARecord) long is_front is_rest is_head n
     let same : head_of rec ≡ head = same_row HeadFits head_text head_fields head_reads_back (head_of rec) head is.fit.head is_head.fit (sym first ∙ is_head.spelled) in
     none rec (record { fits = is.fit; is_head = same; spelled = second })
 with_head bytes front rest head (Err OutOfMemory) long is_front is_rest is_head none = tt
+
+-- ---- one spelling
+
+regrouped : (rec : FlexRec) (x : List ℕ) → record_text rec ++ x ≡ head_text (head_of rec) ++ (fs_rows_text rec ++ (map_rows_text rec ++ (cell_rows_text rec ++ x)))
+regrouped rec x =
+    append_assoc (head_text (head_of rec)) (fs_rows_text rec ++ (map_rows_text rec ++ cell_rows_text rec)) x
+    ∙ ap (λ (l : List ℕ). head_text (head_of rec) ++ l) (append_assoc (fs_rows_text rec) (map_rows_text rec ++ cell_rows_text rec) x
+    ∙ ap (λ (l : List ℕ). fs_rows_text rec ++ l) (append_assoc (map_rows_text rec) (cell_rows_text rec) x))
+
+pub same_record : (a b : FlexRec) (x y : List ℕ) → RecFits a → RecFits b → record_text a ++ x ≡ record_text b ++ y → (a ≡ b) × (x ≡ y)
+same_record a b x y fa fb e =
+    let cells_a : List ℕ = cell_rows_text a ++ x in
+    let cells_b : List ℕ = cell_rows_text b ++ y in
+    let maps_a : List ℕ = map_rows_text a ++ cells_a in
+    let maps_b : List ℕ = map_rows_text b ++ cells_b in
+    let heads = same_front (head_text (head_of a)) (head_text (head_of b)) (fs_rows_text a ++ maps_a) (fs_rows_text b ++ maps_b)
+    (head_width (head_of a) fa.head ∙ sym (head_width (head_of b) fb.head)) (sym (regrouped a x) ∙ e ∙ regrouped b y) in
+    let head : head_of a ≡ head_of b = same_row HeadFits head_text head_fields head_reads_back (head_of a) (head_of b) fa.head fb.head heads.0 in
+    let filesystems = same_rows FsFits fs_text fs_fields 160 fs_width fs_reads_back a.filesystems b.filesystems maps_a maps_b fa.filesystems fb.filesystems (ap (λ (h : FlexHead). h.filesystems) head) heads.1 in
+    let mappings = same_rows MapFits map_text map_fields 12 map_width map_reads_back a.mappings b.mappings cells_a cells_b fa.mappings fb.mappings (ap (λ (h : FlexHead). h.mappings) head) filesystems.1 in
+    let cells = same_rows CellFits cell_text cell_fields 12 cell_width cell_reads_back a.cells b.cells x y fa.cells fb.cells (ap (λ (h : FlexHead). h.cells) head) mappings.1 in
+    ((λ i. record { serial = (head i).serial; next_fs = (head i).next_fs; next_cell = (head i).next_cell; filesystems = filesystems.0 i; mappings = mappings.0 i; cells = cells.0 i }), cells.1)

@@ -1,4 +1,4 @@
-ghost use Rattle.std.specs.Prelude.{◌≡◌, ℕ};
+ghost use Rattle.std.specs.Prelude.{◌≡◌, ◌<◌, ◌^◌, ℕ, length, IfOk};
 ghost use Rattle.st_recfields.specs.Rows.{Reads, Spells};
 ghost use Rattle.st_flexrec.specs.Head.{HeadFits};
 ghost use Rattle.st_flexrec.specs.Record.{RecFits, record_text};
@@ -6,7 +6,8 @@ ghost use Rattle.st_flexrec.specs.Reading.{Follows};
 
 use crate::head::{FlexHead, HEAD_WIDTH};
 use crate::rows::{CELL_WIDTH, CellRows, FsRows, MAP_WIDTH, MapRows};
-use st_recfields::{FS_WIDTH, RecFault, read_row, read_rows};
+use st_recfields::{FS_WIDTH, RecFault, Row, put_rows, read_row, read_rows};
+use st_units::{Bytes, NoMemory};
 use std::alloc::Global;
 
 /// What the flex record of a pool says.
@@ -21,6 +22,29 @@ pub struct FlexRec {
     pub filesystems: FsRows,
     pub mappings: MapRows,
     pub cells: CellRows,
+}
+
+/// The spelling of the value. Its rows have to be as many as the head can count.
+pub fn write(alloc: Global, rec: &FlexRec) -> Result<Bytes, NoMemory>
+    requires filesystems { length rec.now.filesystems < 2 ^ 16 }
+    requires mappings { length rec.now.mappings < 2 ^ 32 }
+    requires cells { length rec.now.cells < 2 ^ 32 }
+    ensures { IfOk result (λ bytes. bytes ≡ record_text rec.now) }
+{
+    let head = FlexHead {
+        serial: rec.serial,
+        next_fs: rec.next_fs,
+        next_cell: rec.next_cell,
+        filesystems: rec.filesystems.len() as u16,
+        mappings: rec.mappings.len() as u32,
+        cells: rec.cells.len() as u32,
+    };
+    let mut out = Vec::new(alloc);
+    head.put(&mut out)?;
+    put_rows(&mut out, rec.filesystems.items())?;
+    put_rows(&mut out, rec.mappings.items())?;
+    put_rows(&mut out, rec.cells.items())?;
+    Ok(Bytes::of(out))
 }
 
 /// The value whose spelling the bytes are, whether or not it keeps the conditions.
