@@ -1,7 +1,7 @@
 -- Rows of one width, one after the other.
-use Rattle.std.proofs.Common.{◌≡◌, ℕ, ◌+◌, ◌*◌, ◌<◌, ◌≤◌, List, [], ◌∷◌, ◌++◌, length, take, drop, Result, Ok, Err, refl, sym, ap, ◌∙◌, subst, append_assoc, arith}
-use Rattle.std.specs.List.{flat_map, AllByRecursion}
-use Rattle.std.proofs.lemmas.List.{take_at, drop_at, take_all, append-nil, append_cancel_left, length-append}
+use Rattle.std.proofs.Common.{◌≡◌, ℕ, ◌*◌, ◌<◌, List, [], ◌∷◌, ◌++◌, length, take, drop, Err, refl, sym, ap, ◌∙◌, subst, append_assoc, arith}
+use Rattle.std.specs.List.{flat_map}
+use Rattle.std.proofs.lemmas.List.{take_at, drop_at, take_all, append-nil, length-append}
 use Rattle.std.proofs.lemmas.List.Concat.{flat_map-cons}
 use Rattle.st_recfields.specs.declared.fault.RecFault.{RecFault}
 use Rattle.st_recfields.specs.declared.fault.RecFault.TheVariants.{NotARecord, OutOfMemory}
@@ -99,9 +99,10 @@ same_row fits text fields back a b fa fb e = sym (back a fa) ∙ ap fields e ∙
 
 -- where texts of one length begin the same bytes, they are the same, and so is what follows
 pub same_front : (a b x y : List ℕ) → length a ≡ length b → a ++ x ≡ b ++ y → (a ≡ b) × (x ≡ y)
-same_front a b x y size e =
-    (sym (take_at a x (length a) refl) ∙ ap (λ (l : List ℕ). take (length a) l) e ∙ take_at b y (length a) (sym size),
-     sym (drop_at a x (length a) refl) ∙ ap (λ (l : List ℕ). drop (length a) l) e ∙ drop_at b y (length a) (sym size))
+same_front a b x y size e = (
+  sym (take_at a x (length a) refl) ∙ ap (λ (l : List ℕ). take (length a) l) e ∙ take_at b y (length a) (sym size),
+  sym (drop_at a x (length a) refl) ∙ ap (λ (l : List ℕ). drop (length a) l) e ∙ drop_at b y (length a) (sym size),
+)
 
 -- so many rows in front of other bytes are these rows and no others
 pub same_rows : {T : Type 0} (fits : T → Type 0) (text : T → List ℕ) (fields : List ℕ → T) (w : ℕ) → HasWidth fits text w → ReadsBack fits text fields → (xs ys : List T) (u v : List ℕ)

@@ -1,5 +1,5 @@
 -- Rows that are put together front to back are the spellings of their values.
-use Rattle.std.proofs.Common.{◌≡◌, ℕ, List, [], ◌∷◌, ◌++◌, length, take, replicate, unwrap_or, refl, sym, ap, ◌∙◌, append_assoc, arith}
+use Rattle.std.proofs.Common.{◌≡◌, ℕ, List, [], ◌∷◌, ◌++◌, length, take, replicate, unwrap_or, ap, ◌∙◌, append_assoc}
 use Rattle.st_units.specs.declared.rows.DevRow.{DevRow}
 use Rattle.st_units.specs.declared.rows.FsRow.{FsRow}
 use Rattle.st_fields.specs.Fields.{spelling}

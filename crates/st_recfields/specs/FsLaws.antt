@@ -1,10 +1,10 @@
 -- The row of a filesystem has its width, and is read back from its spelling.
-use Rattle.std.proofs.Common.{◌≡◌, ℕ, ◌+◌, Bool, false, cond, eqb, ◌<◌, ◌≤◌, ◌^◌, List, ◌++◌, length, take, replicate, min, Option, Some, None, unwrap_or, true, refl, sym, ap, ◌∙◌, arith}
+use Rattle.std.proofs.Common.{◌≡◌, ℕ, Bool, false, cond, eqb, ◌<◌, ◌≤◌, ◌^◌, List, ◌++◌, length, take, replicate, min, Option, Some, None, unwrap_or, refl, ap, ◌∙◌, arith}
 use Rattle.std.specs.Prelude.{IfSome}
 use Rattle.std.proofs.lemmas.Bool.Decides.{nat_tests}
 use Rattle.std.proofs.lemmas.List.{length-append}
 use Rattle.st_units.specs.declared.rows.FsRow.{FsRow}
-use Rattle.st_fields.specs.Fields.{number, number_at, spelling}
+use Rattle.st_fields.specs.Fields.{number_at, spelling}
 use Rattle.st_fields.proofs.Spellings.{number-spelling}
 use Rattle.st_recfields.specs.Texts.{filled, text_in}
 use Rattle.st_recfields.specs.TextLaws.{name_short, length-filled, text_back}

@@ -1,5 +1,5 @@
 -- Rows of bytes, and what it is to read exactly.
-use Rattle.std.specs.Prelude.{◌≡◌, ℕ, List, length, Result, Ok, Err}
+use Rattle.std.specs.Prelude.{◌≡◌, ℕ, List, Result, Ok, Err}
 use Rattle.std.specs.List.{flat_map, AllByRecursion}
 use Rattle.st_recfields.specs.declared.fault.RecFault.{RecFault}
 use Rattle.st_recfields.specs.declared.fault.RecFault.TheVariants.{NotARecord, OutOfMemory}

@@ -1,9 +1,9 @@
 -- Texts in their fields.
-use Rattle.std.proofs.Common.{◌≡◌, ℕ, ◌+◌, ◌-◌, ◌<◌, ◌≤◌, List, [], ◌∷◌, ◌++◌, length, take, drop, replicate, min, true, refl, sym, ap, subst, ◌∙◌, append_assoc, arith}
+use Rattle.std.proofs.Common.{◌≡◌, ℕ, ◌+◌, ◌-◌, ◌≤◌, List, ◌++◌, length, take, drop, replicate, min, true, refl, sym, ap, ◌∙◌, append_assoc, arith}
 use Rattle.std.proofs.lemmas.List.{take_at, drop_at, length-append, length-replicate, drop-drop, drop-replicate, take-replicate}
 use Rattle.std.proofs.lemmas.Bool.Decides.{nat_tests}
 use Rattle.st_units.specs.Text.{is_name, is_path}
-use Rattle.st_recfields.specs.Texts.{filled, text_in}
+use Rattle.st_recfields.specs.Texts.{filled}
 
 pub name_short : (name : List ℕ) → is_name name ≡ true → length name ≤ 64
 name_short name h = grind (arith, nat_tests)

@@ -16,6 +16,7 @@ pub const DEV_WIDTH: usize = 80;
 pub const SEGMENT_WIDTH: usize = 12;
 
 const DATA_TIER: u8 = 0;
+
 const CACHE_TIER: u8 = 1;
 
 fn code_of(tier: Tier) -> u8

@@ -1,4 +1,4 @@
-use Rattle.std.proofs.Common.{◌≡◌, ◌<◌, ◌≤◌, ◌∙◌, ℕ, length, take, ap, sym, arith}
+use Rattle.std.proofs.Common.{◌<◌, ◌∙◌, ℕ, length, take, ap, arith}
 use Rattle.st_recfields.proofs.RowsLemmas.{too_short, no_row}
 use Rattle.st_recfields.proofs.row.read_rows.Goals as goal
 
