@@ -1,5 +1,5 @@
 -- The counts of a record fit their fields.
-use Rattle.std.proofs.Common.{◌≡◌, ℕ, ◌≤◌, Bool, true, false, ◌&&◌, leb, length, refl}
+use Rattle.std.proofs.Common.{◌≡◌, ◌≤◌, Bool, true, false, ◌&&◌, leb, length, refl}
 use Rattle.std.proofs.lemmas.Bool.{leb-true}
 use Rattle.st_poolrec.specs.declared.record.PoolRec.{PoolRec}
 use Rattle.st_poolrec.specs.Conditions.{rows_fit}

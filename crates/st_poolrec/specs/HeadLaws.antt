@@ -1,7 +1,7 @@
 -- The head of a pool record has its width, and is read back from its spelling.
-use Rattle.std.proofs.Common.{◌≡◌, ℕ, ◌+◌, ◌/◌, ◌%◌, ◌<◌, ◌≤◌, ◌^◌, Bool, true, false, eqb, List, [], ◌∷◌, ◌++◌, length, take, drop, min, refl, sym, ap, ◌∙◌, arith}
+use Rattle.std.proofs.Common.{◌≡◌, ℕ, ◌/◌, ◌%◌, ◌<◌, ◌≤◌, ◌^◌, Bool, true, false, eqb, List, ◌++◌, length, take, min, refl, ap, ◌∙◌, arith}
 use Rattle.st_poolrec.specs.declared.head.PoolHead.{PoolHead}
-use Rattle.st_fields.specs.Fields.{number, number_at, spelling}
+use Rattle.st_fields.specs.Fields.{number_at, spelling}
 use Rattle.st_fields.proofs.Spellings.{number-spelling}
 use Rattle.st_recfields.specs.Texts.{filled, text_in}
 use Rattle.st_recfields.specs.TextLaws.{name_short, length-filled, text_back_last}

@@ -13,8 +13,11 @@ const MAX_FS_LIMIT: u32 = 128;
 const MAX_DEVS: usize = 16;
 
 const LEAST_SECTORS: u64 = 8_192;
+
 const MOST_SECTORS: u64 = 1 << 32;
+
 const SECTORS_BEFORE_BLOCKS: u64 = 256;
+
 const SECTORS_OF_BLOCK: u64 = 128;
 
 /// How many usable blocks of the first device hold the flex record.

@@ -1,4 +1,4 @@
-use Rattle.std.proofs.Common.{◌≡◌, false, sym, ◌∙◌}
+use Rattle.std.proofs.Common.{◌≡◌, false}
 use Rattle.st_poolrec.specs.Record.{is_record}
 use Rattle.st_poolrec.proofs.ReadingLemmas.{invalid}
 use Rattle.st_poolrec.proofs.record.decode.Goals as goal

@@ -1,4 +1,4 @@
-use Rattle.std.proofs.Common.{◌≡◌, ℕ, ◌+◌, ◌*◌, length, arith}
+use Rattle.std.proofs.Common.{arith}
 use Rattle.st_poolrec.proofs.ReadingLemmas.{wrong_length, bad_devs, bad_segments, with_rows}
 use Rattle.st_poolrec.proofs.record.read_rest.Goals as goal
 
