@@ -35,9 +35,18 @@ fn lists_hold_what_the_calls_left(rt: HostRuntime) -> Result<(), Fail> {
     if links.is_linked(0) {
         links.unlink(0);
     }
-    assert_eq!(rt; (links.first(0), links.next(1), links.next(2)), (Some(1), Some(2), None));
-    assert_eq!(rt; (links.last(0), links.prev(2), links.prev(1)), (Some(2), Some(1), None));
-    assert_eq!(rt; (links.first(1), links.last(1), links.next(3)), (Some(3), Some(3), None));
+    assert_eq!(rt;
+        (links.first(0), links.next(1), links.next(2)),
+        (Some(1), Some(2), None)
+    );
+    assert_eq!(rt;
+        (links.last(0), links.prev(2), links.prev(1)),
+        (Some(2), Some(1), None)
+    );
+    assert_eq!(rt;
+        (links.first(1), links.last(1), links.next(3)),
+        (Some(3), Some(3), None)
+    );
     assert_eq!(rt; (links.next(0), links.first(2)), (None, None));
     Ok(())
 }

@@ -41,29 +41,29 @@ pub has_of_without : (y p : ℕ) (xs : List ℕ) → has y (without p xs) ≡ tr
 has_of_without y p [] h = absurd (false≢true h)
 has_of_without y p (x ∷ xs) h =
     elim (cases_eq p x) [
-      inl e ↦
-        let rest = has_of_without y p xs (sym (ap (has y) (subst (λ (z : ℕ). without p (z ∷ xs) ≡ without p xs) e (without_here p xs))) ∙ h) in
-        (has_tail y x xs rest.0, rest.1)
-    | inr ne ↦
-        elim (has_cases y x (without p xs) (sym (ap (has y) (without_there p x xs ne)) ∙ h)) [
-          inl same ↦ (or_left (eqb y x) (has y xs) (eq-eqb y x same), (λ (q : y ≡ p). ne (sym q ∙ same)))
-        | inr t ↦ let rest = has_of_without y p xs t in (has_tail y x xs rest.0, rest.1)
-        ]
+      | inl e ↦
+          let rest = has_of_without y p xs (sym (ap (has y) (subst (λ (z : ℕ). without p (z ∷ xs) ≡ without p xs) e (without_here p xs))) ∙ h) in
+          (has_tail y x xs rest.0, rest.1)
+      | inr ne ↦
+          elim (has_cases y x (without p xs) (sym (ap (has y) (without_there p x xs ne)) ∙ h)) [
+            | inl same ↦ (or_left (eqb y x) (has y xs) (eq-eqb y x same), (λ (q : y ≡ p). ne (sym q ∙ same)))
+            | inr t ↦ let rest = has_of_without y p xs t in (has_tail y x xs rest.0, rest.1)
+          ]
     ]
 
 pub has-without : (y p : ℕ) (xs : List ℕ) → has y xs ≡ true → (y ≡ p → ⊥) → has y (without p xs) ≡ true
 has-without y p [] h ne = h
 has-without y p (x ∷ xs) h ne =
     elim (cases_eq p x) [
-      inl e ↦
-        ap (has y) (subst (λ (z : ℕ). without p (z ∷ xs) ≡ without p xs) e (without_here p xs))
-        ∙ elim (has_cases y x xs h) [ inl same ↦ absurd (ne (same ∙ sym e)) | inr t ↦ has-without y p xs t ne ]
-    | inr other ↦
-        ap (has y) (without_there p x xs other)
-        ∙ elim (has_cases y x xs h) [
-          inl same ↦ or_left (eqb y x) (has y (without p xs)) (eq-eqb y x same)
-        | inr t ↦ has_tail y x (without p xs) (has-without y p xs t ne)
-        ]
+      | inl e ↦
+          ap (has y) (subst (λ (z : ℕ). without p (z ∷ xs) ≡ without p xs) e (without_here p xs))
+          ∙ elim (has_cases y x xs h) [ inl same ↦ absurd (ne (same ∙ sym e)) | inr t ↦ has-without y p xs t ne ]
+      | inr other ↦
+          ap (has y) (without_there p x xs other)
+          ∙ elim (has_cases y x xs h) [
+            | inl same ↦ or_left (eqb y x) (has y (without p xs)) (eq-eqb y x same)
+            | inr t ↦ has_tail y x (without p xs) (has-without y p xs t ne)
+          ]
     ]
 
 pub lacks_itself : (p : ℕ) (xs : List ℕ) → has p (without p xs) ≡ false
@@ -76,6 +76,6 @@ pub AreDistinct-without : (p : ℕ) (xs : List ℕ) → AreDistinct xs → AreDi
 AreDistinct-without p [] d = tt
 AreDistinct-without p (x ∷ xs) d =
     elim (cases_eq p x) [
-      inl e ↦ subst AreDistinct (sym (subst (λ (z : ℕ). without p (z ∷ xs) ≡ without p xs) e (without_here p xs))) (AreDistinct-without p xs d.1)
-    | inr ne ↦ subst AreDistinct (sym (without_there p x xs ne)) (lacks-without x p xs d.0, AreDistinct-without p xs d.1)
+      | inl e ↦ subst AreDistinct (sym (subst (λ (z : ℕ). without p (z ∷ xs) ≡ without p xs) e (without_here p xs))) (AreDistinct-without p xs d.1)
+      | inr ne ↦ subst AreDistinct (sym (without_there p x xs ne)) (lacks-without x p xs d.0, AreDistinct-without p xs d.1)
     ]

@@ -47,6 +47,6 @@ part_step ranges i d h done piece left skip whole piece_is so_far =
     let part : take left (drop skip (blocks_in r ++ rest)) ≡ take left (drop skip (blocks_in r)) ++ after r.blocks = part-append left skip (blocks_in r) rest ∙ ap (λ n. take left (drop skip (blocks_in r)) ++ after n) len in
     let split : blocks_of (done ++ piece) ≡ blocks_of done ++ take left (drop skip (blocks_in r)) = flat_map-append blocks_in done piece ∙ ap (λ bs. blocks_of done ++ bs) piece_is in
     ap (λ bs. bs ++ after r.blocks) split
-        ∙ (append_assoc (blocks_of done) (take left (drop skip (blocks_in r))) (after r.blocks)
-        ∙ (ap (λ bs. blocks_of done ++ bs) (sym (ap (λ bs. take left (drop skip bs)) here ∙ part))
-        ∙ so_far))
+    ∙ (append_assoc (blocks_of done) (take left (drop skip (blocks_in r))) (after r.blocks)
+    ∙ (ap (λ bs. blocks_of done ++ bs) (sym (ap (λ bs. take left (drop skip bs)) here ∙ part))
+    ∙ so_far))

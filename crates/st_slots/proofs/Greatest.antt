@@ -47,17 +47,17 @@ of_two P zero_is one_is r lt = elim (cases_lt r 1) [
 pub is_newest : (area : Area) (device : Content) (x : ℕ × List ℕ) → newest_in area device ≡ Some x → IsNewest area device x
 is_newest area device x is = elim (newer_is (read_slot area 0 device) (read_slot area 1 device) x is) [
   | inl first ↦ record {
-      place = 0;
-      of_two = omega arith;
-      holds = first.it;
-      greatest = λ r y lt found. of_two (λ (k : ℕ). read_slot area k device ≡ Some y → y.0 ≤ x.0) (λ same. omega (arith, same_value x y (sym first.it ∙ same))) (first.others y) r lt found;
-    }
+    place = 0;
+    of_two = omega arith;
+    holds = first.it;
+    greatest = λ r y lt found. of_two (λ (k : ℕ). read_slot area k device ≡ Some y → y.0 ≤ x.0) (λ same. omega (arith, same_value x y (sym first.it ∙ same))) (first.others y) r lt found;
+  }
   | inr second ↦ record {
-      place = 1;
-      of_two = omega arith;
-      holds = second.it;
-      greatest = λ r y lt found. of_two (λ (k : ℕ). read_slot area k device ≡ Some y → y.0 ≤ x.0) (second.others y) (λ same. omega (arith, same_value x y (sym second.it ∙ same))) r lt found;
-    }
+    place = 1;
+    of_two = omega arith;
+    holds = second.it;
+    greatest = λ r y lt found. of_two (λ (k : ℕ). read_slot area k device ≡ Some y → y.0 ≤ x.0) (second.others y) (λ same. omega (arith, same_value x y (sym second.it ∙ same))) r lt found;
+  }
 ]
 
 pub none_valid : (area : Area) (device : Content) (place : ℕ) → newest_in area device ≡ None → place < 2 → read_slot area place device ≡ None

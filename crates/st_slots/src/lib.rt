@@ -2,11 +2,10 @@
 #![tactic(auto)]
 
 mod head;
+pub mod laws;
 mod read;
 mod spot;
 mod write;
-
-pub mod laws;
 
 pub use read::{at_generation, newest};
 pub use spot::{Area, SlotFault};

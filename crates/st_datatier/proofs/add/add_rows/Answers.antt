@@ -22,7 +22,8 @@ loop-row-preserved c =
     let i = c.loop-row.invariant in
     let size = row_size c.args.rows.now c.loop-row.row-index c.row-item.result (omega arith) c.row-item.is c.requires.more_sizes in
     record {
-        sectors = c.in_ok-add_device.ensures.sectors ∙ one_more_row c.args.sectors.now.items _ c.args.rows.now c.loop-row.row-index c.row-item.result (omega arith) c.row-item.is i.sectors;
-        sizes = subst (All IsDeviceSize) (sym c.in_ok-add_device.ensures.sectors) (All-push IsDeviceSize c.loop-row.sectors.items c.row-item.result.sectors i.sizes size);
-        blocks = c.in_ok-add_device.ensures.blocks ∙ ap data_blocks (sym c.in_ok-add_device.ensures.sectors);
-        taken = c.in_ok-add_device.ensures.taken ∙ i.taken }
+      sectors = c.in_ok-add_device.ensures.sectors ∙ one_more_row c.args.sectors.now.items _ c.args.rows.now c.loop-row.row-index c.row-item.result (omega arith) c.row-item.is i.sectors;
+      sizes = subst (All IsDeviceSize) (sym c.in_ok-add_device.ensures.sectors) (All-push IsDeviceSize c.loop-row.sectors.items c.row-item.result.sectors i.sizes size);
+      blocks = c.in_ok-add_device.ensures.blocks ∙ ap data_blocks (sym c.in_ok-add_device.ensures.sectors);
+      taken = c.in_ok-add_device.ensures.taken ∙ i.taken;
+    }
