@@ -1,0 +1,5 @@
+pub mod Blocks
+
+pub mod Stock
+
+pub mod Calls
