@@ -43,7 +43,7 @@ few_blocks blocks h g =
     let few = length-le_from_distinct_below (map code blocks) 281474976710656 distinct (λ q w. All-contains (λ n. n < 281474976710656) (map code blocks) q below (Contains-from_any (λ x y t. (Decides-eqb x y).0 t) q (map code blocks) w)) in
     omega (arith, length-map blocks code)
 
-blocks_fit : (dev first n : ℕ) → dev < 65536 → first + n ≤ 4294967296 → All IsBlock (blocks_from dev first n)
+pub blocks_fit : (dev first n : ℕ) → dev < 65536 → first + n ≤ 4294967296 → All IsBlock (blocks_from dev first n)
 unfolding blocks_from
 blocks_fit dev first n h g k d w =
     let f : ℕ → Block = λ block. (dev, block) in

@@ -1,8 +1,8 @@
 -- parts of the blocks of a segment, and of several in a row
-use Rattle.std.proofs.Common.{◌≡◌, ℕ, zero, suc, ◌+◌, ◌-◌, ◌<◌, ◌≤◌, min, List, [], ◌∷◌, ◌++◌, map, length, take, drop, refl, sym, ap, ◌∙◌, arith}
+use Rattle.std.proofs.Common.{◌≡◌, ℕ, zero, suc, ◌+◌, ◌-◌, ◌<◌, ◌≤◌, min, List, [], ◌∷◌, ◌++◌, map, length, get_or, take, drop, refl, sym, ap, ◌∙◌, arith}
 use Rattle.std.specs.List.{flat_map, range_with_len}
 use Rattle.std.proofs.lemmas.List.{take-map, drop-map, append_assoc}
-use Rattle.std.proofs.lemmas.List.FromFn.{length-map-range_with_len}
+use Rattle.std.proofs.lemmas.List.FromFn.{length-map-range_with_len, get_or-map-range_with_len}
 use Rattle.st_seg.specs.Blocks.{Block, blocks_from}
 
 drop-range : (k a n : ℕ) → drop k (range_with_len a n) ≡ range_with_len (a + k) (n - k)
@@ -71,3 +71,11 @@ part-append (suc count) (suc skip) (x ∷ xs) ys =
 pub blocks_from-none : (dev first n : ℕ) → n ≡ 0 → blocks_from dev first n ≡ []
 unfolding blocks_from
 blocks_from-none dev first n h = rw h
+
+pub get_or-blocks_from : (dev first n j : ℕ) (d : Block) → j < n → get_or (blocks_from dev first n) j d ≡ (dev, first + j)
+unfolding blocks_from
+get_or-blocks_from dev first n j d h = get_or-map-range_with_len (λ block. (dev, block)) first n j (first + j) d h refl
+
+pub drop-blocks_from : (skip dev first n : ℕ) → drop skip (blocks_from dev first n) ≡ blocks_from dev (first + skip) (n - skip)
+unfolding blocks_from
+drop-blocks_from skip dev first n = drop-map (λ block. (dev, block)) skip (range_with_len first n) ∙ ap (map (λ block. (dev, block))) (drop-range skip first n)
