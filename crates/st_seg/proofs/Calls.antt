@@ -5,8 +5,11 @@ use Rattle.st_seg.specs.Blocks.{Block, NoneTwice}
 use Rattle.st_seg.specs.Stock.{Stock, empty_stock, with_blocks, after_taking, added}
 use Rattle.st_seg.specs.Calls.{Call, adding, taking, after_call, after_calls, added_by}
 
-added-taking : (stock : Stock) (n : ℕ) → added (after_taking stock n) ≡ added stock
+pub added-taking : (stock : Stock) (n : ℕ) → added (after_taking stock n) ≡ added stock
 added-taking stock n = append_assoc stock.taken (take n stock.free) (drop n stock.free) ∙ ap (λ bs. stock.taken ++ bs) (take-append-drop n stock.free)
+
+pub added-adding : (stock : Stock) (more : List Block) → added (with_blocks stock more) ≡ added stock ++ more
+added-adding stock more = sym (append_assoc stock.taken stock.free more)
 
 added-if : (stock : Stock) (n : ℕ) (room : Bool) → added (if room then after_taking stock n else stock) ≡ added stock
 added-if stock n true = added-taking stock n
@@ -16,7 +19,7 @@ added_from : (calls : List Call) (stock : Stock) → added (after_calls stock ca
 added_from [] stock = sym (append-nil (added stock))
 added_from (adding more ∷ calls) stock =
     added_from calls (with_blocks stock more)
-        ∙ (ap (λ bs. bs ++ added_by calls) (sym (append_assoc stock.taken stock.free more))
+        ∙ (ap (λ bs. bs ++ added_by calls) (added-adding stock more)
         ∙ append_assoc (added stock) more (added_by calls))
 added_from (taking n ∷ calls) stock =
     added_from calls (after_call stock (taking n))
@@ -34,3 +37,11 @@ pub taken_apart : (calls : List Call) → NoneTwice (added_by calls) → NoneTwi
 taken_apart calls h =
     let stock = after_calls empty_stock calls in
     NoneTwice-front stock.taken stock.free (subst NoneTwice (sym (all_added calls)) h)
+
+-- the first n free blocks and those that were handed out before
+pub next_apart : (stock : Stock) (table blocks : List Block) (n : ℕ) → stock.taken ≡ table → blocks ≡ take n stock.free → NoneTwice (added stock) → NoneTwice (table ++ blocks)
+next_apart stock table blocks n taken_is blocks_is h =
+    let whole : NoneTwice ((stock.taken ++ take n stock.free) ++ drop n stock.free) = subst NoneTwice (sym (added-taking stock n)) h in
+    let front : NoneTwice (stock.taken ++ take n stock.free) = NoneTwice-front (stock.taken ++ take n stock.free) (drop n stock.free) whole in
+    let there : NoneTwice (table ++ take n stock.free) = subst (λ (bs : List Block). NoneTwice (bs ++ take n stock.free)) taken_is front in
+    subst (λ (bs : List Block). NoneTwice (table ++ bs)) (sym blocks_is) there

@@ -71,13 +71,33 @@ impl SegAlloc {
         ensures no_room_only { IfErr result (λ fault. (free : ℕ) → fault ≡ NoRoom free → length self.old.free < blocks) }
         ensures err { OnErr result (self.new ≡ self.old) }
     {
-        let free = self.free();
+        let segments = self.front(alloc, blocks)?;
+        self.hand_out(blocks);
+        Ok(segments)
+    }
+
+    /// The segments that `take` would hand out.
+    pub fn front(&self, alloc: Global, blocks: u64) -> Result<SegList, SegFault>
+        ensures enough { OnOk result (blocks ≤ length self.now.free) }
+        ensures blocks { IfOk result (λ segments. blocks_of segments ≡ take blocks self.now.free) }
+        ensures segments { IfOk result (λ segments. All IsSegment segments) }
+        ensures apart { NoneTwice (added self.now) }
+        ensures no_room { length self.now.free < blocks → result ≡ Err (NoRoom (length self.now.free)) }
+        ensures no_room_only { IfErr result (λ fault. (free : ℕ) → fault ≡ NoRoom free → length self.now.free < blocks) }
+    {
+        let free = self.added - self.taken;
         if free < blocks {
             return Err(SegFault::NoRoom(free));
         }
-        let segments = part(alloc, &self.ranges, self.taken, blocks)?;
+        Ok(part(alloc, &self.ranges, self.taken, blocks)?)
+    }
+
+    /// Hands the first `blocks` of the free blocks out, as `front` gave them.
+    pub fn hand_out(&mut self, blocks: u64)
+        requires { blocks ≤ length self.old.free }
+        ensures { self.new ≡ after_taking self.old blocks }
+    {
         self.taken += blocks;
-        Ok(segments)
     }
 
     /// How many blocks are free.
