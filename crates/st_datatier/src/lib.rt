@@ -1,13 +1,12 @@
-// A library with one function.
+//! The data tier of a pool: which blocks its devices give for data, and which of them are in use.
 #![tactic(auto)]
 
-ghost use Rattle.std.specs.Prelude.{◌≡◌};
-ghost use Rattle.st_datatier.specs.Echo.{echo_of};
+mod add;
+mod size;
+mod tier;
 
-// The `ensures` clause is the contract: what `echo` returns is `echo_of` of its argument, a definition
-// in `specs/Echo.antt`, which a caller's clause can cite too.
-pub fn echo(x: usize) -> usize
-    ensures { result ≡ echo_of x }
-{
-    x
-}
+pub use size::{is_device_size, usable_blocks, FLEX_BLOCKS, MAX_SECTORS, MIN_SECTORS};
+pub use tier::DataTier;
+
+/// The most devices that a pool has.
+pub const MAX_DEVICES: usize = 16;
