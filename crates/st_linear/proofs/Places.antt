@@ -1,13 +1,12 @@
 -- the place of a block, by the run that it lies in; places of different blocks differ
-use Rattle.std.proofs.Common.{◌≡◌, ◌≢◌, ◌⊎◌, inl, inr, ℕ, zero, suc, ◌+◌, ◌-◌, ◌*◌, ◌<◌, ◌≤◌, List, [], ◌∷◌, ◌++◌, length, get_or, take, Some, None, refl, sym, subst, ap, ap₂, ◌∙◌, arith}
-use Rattle.std.specs.List.{All, flat_map, slice_get}
+use Rattle.std.proofs.Common.{◌≡◌, ◌≢◌, inl, inr, ℕ, zero, suc, ◌+◌, ◌-◌, ◌*◌, ◌<◌, ◌≤◌, List, [], ◌∷◌, ◌++◌, length, get_or, take, Some, refl, sym, subst, ap, ap₂, ◌∙◌, arith}
 use Rattle.std.specs.List.Sorted.{IsPartitionPoint}
 use Rattle.std.specs.Option.{option_map}
-use Rattle.std.proofs.lemmas.List.{length-append, take_all, get_or_append_left}
+use Rattle.std.proofs.lemmas.List.{take_all}
 use Rattle.std.proofs.lemmas.List.Concat.{get_or-flat_map}
 use Rattle.std.proofs.lemmas.Bool.{cases_lt, cases_order}
 use Rattle.std.proofs.lemmas.Option.{slice_get-get_or}
-use Rattle.st_seg.specs.Blocks.{Block, IsSegment, NoneTwice, blocks_in, blocks_from}
+use Rattle.st_seg.specs.Blocks.{Block, IsSegment, NoneTwice, blocks_in}
 use Rattle.st_seg.proofs.Parts.{length-blocks_from, get_or-blocks_from}
 use Rattle.st_linear.specs.declared.table.Run.{Run}
 use Rattle.st_linear.specs.Places.{place_of, place_at}
@@ -35,8 +34,9 @@ ends_behind : (runs : List Run) (k block : ℕ) (d : Run) → AreRuns 0 runs →
 unfolding Parts
 ends_behind runs k block d h within parted below =
     elim (cases_lt (k + 1) (length runs)) [
-        inl more ↦ omega (arith, parted.1 (k + 1) d (omega arith) more, run_start 0 runs (k + 1) d h more, run_end 0 runs k d h within)
-      | inr last ↦ omega (arith, run_end 0 runs k d h within, ap (λ rs. length (blocks_of_runs rs)) (take_all (k + 1) runs last)) ]
+      | inl more ↦ omega (arith, parted.1 (k + 1) d (omega arith) more, run_start 0 runs (k + 1) d h more, run_end 0 runs k d h within)
+      | inr last ↦ omega (arith, run_end 0 runs k d h within, ap (λ rs. length (blocks_of_runs rs)) (take_all (k + 1) runs last))
+    ]
 
 place_at-is : (blocks : List Block) (b : ℕ) (d : Block) → b < length blocks → place_at blocks b ≡ Some (place_of (get_or blocks b d))
 place_at-is blocks b d h = ap (option_map place_of) (slice_get-get_or blocks b d h)
@@ -49,8 +49,8 @@ block_of_run runs k block d h within low high =
     let short : block - run.start < length (blocks_in s) = omega (arith, length-blocks_from s.dev s.first s.blocks) in
     let at : block ≡ length (blocks_of_runs (take k runs)) + (block - run.start) = omega (arith, run_start 0 runs k d h within) in
     ap (λ n. get_or (blocks_of_runs runs) n (0, 0)) at
-        ∙ (get_or-flat_map (λ (run : Run). blocks_in run.segment) runs k (block - run.start) d (0, 0) within short
-        ∙ get_or-blocks_from s.dev s.first s.blocks (block - run.start) (0, 0) (omega arith))
+    ∙ (get_or-flat_map (λ (run : Run). blocks_in run.segment) runs k (block - run.start) d (0, 0) within short
+    ∙ get_or-blocks_from s.dev s.first s.blocks (block - run.start) (0, 0) (omega arith))
 
 pub some_run_before : (runs read : List Run) (value : List Block) (n block : ℕ) → AreRuns 0 runs → blocks_of_runs runs ≡ value → read ≡ runs → block < length value
     → IsPartitionPoint (λ (run : Run). run.start ≤ block) (λ (run : Run). block < run.start) read n → 0 < n
@@ -72,7 +72,7 @@ lies_in runs read value n block run h is same below parted within at =
     let high : block < (get_or runs k run).start + (get_or runs k run).segment.blocks = ends_behind runs k block run h last (subst (λ m. Parts runs block m) next there) inside in
     let found = block_of_run runs k block run h last low high in
     let place : place_at value block ≡ Some (place_of ((get_or runs k run).segment.dev, (get_or runs k run).segment.first + (block - (get_or runs k run).start))) =
-        ap (λ bs. place_at bs block) (sym is) ∙ (place_at-is (blocks_of_runs runs) block (0, 0) inside ∙ ap (λ b. Some (place_of b)) found) in
+    ap (λ bs. place_at bs block) (sym is) ∙ (place_at-is (blocks_of_runs runs) block (0, 0) inside ∙ ap (λ b. Some (place_of b)) found) in
     let found_run : LiesIn value block (get_or runs k run) = record { low = low; high = high; segment = runs_are_segments 0 runs h k run last; place = place } in
     subst (LiesIn value block) (sym at) found_run
 
@@ -91,8 +91,9 @@ places_apart blocks h b c first second differ e =
     let place : place_of x ≡ place_of y = cc in
     let same : x ≡ y = place_of_tells x y place in
     elim (cases_order b c) [
-        inl equal ↦ differ equal
-      | inr other ↦ elim other [ inl below ↦ h b c (0, 0) below second same | inr above ↦ h c b (0, 0) above first (sym same) ] ]
+      | inl equal ↦ differ equal
+      | inr other ↦ elim other [ inl below ↦ h b c (0, 0) below second same | inr above ↦ h c b (0, 0) above first (sym same) ]
+    ]
 
 pub places_stay : (blocks more : List Block) (b : ℕ) → b < length blocks → place_at (blocks ++ more) b ≡ place_at blocks b
 places_stay [] more b h = absurd (omega arith)

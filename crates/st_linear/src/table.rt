@@ -78,7 +78,10 @@ impl LinearTable {
     {
         let run = self.runs[runs_up_to(&self.runs, block) - 1];
         let number = u64::from(run.segment.first) + (block - run.start);
-        (run.segment.dev, FIRST_USABLE_SECTOR + BLOCK_SECTORS * number)
+        (
+            run.segment.dev,
+            FIRST_USABLE_SECTOR + BLOCK_SECTORS * number,
+        )
     }
 
     /// The same table once more.
@@ -103,11 +106,7 @@ fn runs_up_to(runs: &[Run], block: u64) -> usize
 
 /// The segments as runs of a table, the first beginning at `start`, and the number of the block
 /// behind them.
-fn runs_from(
-    alloc: Global,
-    start: u64,
-    segments: &[Segment],
-) -> Result<(Vec<Run>, u64), NoMemory>
+fn runs_from(alloc: Global, start: u64, segments: &[Segment]) -> Result<(Vec<Run>, u64), NoMemory>
     requires segments { All IsSegment segments.now }
     requires fits { start + length (blocks_of segments.now) < 2 ^ 64 }
     ensures runs { IfOk result (λ r. AreRuns start r.0.items) }

@@ -1,5 +1,5 @@
 -- every list of calls hands blocks out in the order in which they were added
-use Rattle.std.proofs.Common.{◌≡◌, ℕ, ◌+◌, ◌<◌, Bool, true, false, List, [], ◌∷◌, ◌++◌, length, get_or, take, drop, nat_le, if◌then◌else◌, refl, sym, subst, ap, ◌∙◌, arith}
+use Rattle.std.proofs.Common.{◌≡◌, ℕ, Bool, true, false, List, [], ◌∷◌, ◌++◌, length, take, drop, nat_le, if◌then◌else◌, refl, sym, subst, ap, ◌∙◌, arith}
 use Rattle.std.proofs.lemmas.List.{append-nil, append_assoc, take-append-drop, get_or_append_left, length-append}
 use Rattle.st_seg.specs.Blocks.{Block, NoneTwice}
 use Rattle.st_seg.specs.Stock.{Stock, empty_stock, with_blocks, after_taking, added}
@@ -19,11 +19,11 @@ added_from : (calls : List Call) (stock : Stock) → added (after_calls stock ca
 added_from [] stock = sym (append-nil (added stock))
 added_from (adding more ∷ calls) stock =
     added_from calls (with_blocks stock more)
-        ∙ (ap (λ bs. bs ++ added_by calls) (added-adding stock more)
-        ∙ append_assoc (added stock) more (added_by calls))
+    ∙ (ap (λ bs. bs ++ added_by calls) (added-adding stock more)
+    ∙ append_assoc (added stock) more (added_by calls))
 added_from (taking n ∷ calls) stock =
     added_from calls (after_call stock (taking n))
-        ∙ ap (λ bs. bs ++ added_by calls) (added-if stock n (nat_le n (length stock.free)))
+    ∙ ap (λ bs. bs ++ added_by calls) (added-if stock n (nat_le n (length stock.free)))
 
 pub all_added : (calls : List Call) → added (after_calls empty_stock calls) ≡ added_by calls
 all_added calls = added_from calls empty_stock
@@ -31,7 +31,7 @@ all_added calls = added_from calls empty_stock
 pub NoneTwice-front : (xs ys : List Block) → NoneTwice (xs ++ ys) → NoneTwice xs
 NoneTwice-front xs ys h i j d below within e =
     h i j d below (omega (arith, length-append xs ys))
-        (get_or_append_left xs ys d i (omega arith) ∙ (e ∙ sym (get_or_append_left xs ys d j within)))
+    (get_or_append_left xs ys d i (omega arith) ∙ (e ∙ sym (get_or_append_left xs ys d j within)))
 
 pub taken_apart : (calls : List Call) → NoneTwice (added_by calls) → NoneTwice (after_calls empty_stock calls).taken
 taken_apart calls h =

@@ -1,11 +1,11 @@
 -- what a taking makes of the blocks that an allocator has, and the step of the walk that finds the segments
-use Rattle.std.proofs.Common.{◌≡◌, ℕ, zero, suc, ◌+◌, ◌-◌, ◌<◌, List, [], ◌∷◌, ◌++◌, length, get_or, take, drop, Option, Some, None, option_to_list, IfSome, refl, sym, subst, ap, ap₂, ◌∙◌, arith}
+use Rattle.std.proofs.Common.{◌≡◌, ℕ, zero, suc, ◌+◌, ◌-◌, ◌<◌, List, [], ◌∷◌, ◌++◌, length, get_or, take, drop, Option, Some, None, option_to_list, IfSome, refl, sym, ap, ap₂, ◌∙◌, arith}
 use Rattle.std.specs.List.{All}
 use Rattle.std.proofs.lemmas.List.{append_assoc, drop-drop, at_drop_more}
 use Rattle.std.proofs.lemmas.List.Elements.{All-nil, All-cons}
 use Rattle.std.proofs.lemmas.Grind.{flat_map-append}
 use Rattle.st_units.specs.declared.rows.Segment.{Segment}
-use Rattle.st_seg.specs.Blocks.{Block, IsSegment, blocks_from, blocks_in, blocks_of}
+use Rattle.st_seg.specs.Blocks.{Block, IsSegment, blocks_in, blocks_of}
 use Rattle.st_seg.specs.Stock.{Stock, after_taking}
 use Rattle.st_seg.proofs.Parts.{length-blocks_from, part-append}
 
@@ -47,6 +47,6 @@ part_step ranges i d h done piece left skip whole piece_is so_far =
     let part : take left (drop skip (blocks_in r ++ rest)) ≡ take left (drop skip (blocks_in r)) ++ after r.blocks = part-append left skip (blocks_in r) rest ∙ ap (λ n. take left (drop skip (blocks_in r)) ++ after n) len in
     let split : blocks_of (done ++ piece) ≡ blocks_of done ++ take left (drop skip (blocks_in r)) = flat_map-append blocks_in done piece ∙ ap (λ bs. blocks_of done ++ bs) piece_is in
     ap (λ bs. bs ++ after r.blocks) split
-        ∙ (append_assoc (blocks_of done) (take left (drop skip (blocks_in r))) (after r.blocks)
-        ∙ (ap (λ bs. blocks_of done ++ bs) (sym (ap (λ bs. take left (drop skip bs)) here ∙ part))
-        ∙ so_far))
+    ∙ (append_assoc (blocks_of done) (take left (drop skip (blocks_in r))) (after r.blocks)
+    ∙ (ap (λ bs. blocks_of done ++ bs) (sym (ap (λ bs. take left (drop skip bs)) here ∙ part))
+    ∙ so_far))

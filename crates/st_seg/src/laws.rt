@@ -8,5 +8,4 @@ ghost use Rattle.st_seg.specs.Calls.{Call, after_calls, added_by};
 pub fn segments_never_overlap()
     ensures order { (calls : List Call) → added (after_calls empty_stock calls) ≡ added_by calls }
     ensures apart { (calls : List Call) → NoneTwice (added_by calls) → NoneTwice (after_calls empty_stock calls).taken }
-{
-}
+{}

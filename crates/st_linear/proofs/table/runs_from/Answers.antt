@@ -1,5 +1,4 @@
-use Rattle.std.proofs.Common.{◌≡◌, ◌+◌, length, refl, arith}
-use Rattle.st_linear.specs.Runs.{AreRuns, blocks_of_runs}
+use Rattle.std.proofs.Common.{refl, arith}
 use Rattle.st_linear.proofs.Runs.{AreRuns-append, next_fits, blocks_pushed, next_pushed}
 use Rattle.st_linear.proofs.table.runs_from.Goals as goal
 
@@ -12,6 +11,7 @@ pub loop-segment-preserved : goal.loop-segment-preserved
 loop-segment-preserved c =
     let i = c.loop-segment.invariant in
     rw c.in_ok-push.ensures.items (record {
-        runs = AreRuns-append c.args.start c.loop-segment.runs.items _ i.runs (i.next, c.requires.segments c.loop-segment.segment-index _ (omega arith), tt);
-        blocks = blocks_pushed c.args.segments.now c.loop-segment.segment-index _ _ (omega arith) refl c.loop-segment.runs.items i.blocks;
-        next = next_pushed c.loop-segment.runs.items _ c.loop-segment.next c.args.start c.from-next.result i.next c.from-next.ensures })
+      runs = AreRuns-append c.args.start c.loop-segment.runs.items _ i.runs (i.next, c.requires.segments c.loop-segment.segment-index _ (omega arith), tt);
+      blocks = blocks_pushed c.args.segments.now c.loop-segment.segment-index _ _ (omega arith) refl c.loop-segment.runs.items i.blocks;
+      next = next_pushed c.loop-segment.runs.items _ c.loop-segment.next c.args.start c.from-next.result i.next c.from-next.ensures;
+    })

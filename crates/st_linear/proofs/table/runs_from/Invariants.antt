@@ -5,6 +5,7 @@ use Rattle.st_linear.proofs.table.runs_from.Given as goal
 
 abbrev pub invariant-loop-segment : goal.invariant-loop-segment
 invariant-loop-segment l = record {
-    runs : AreRuns l.start l.runs.items;
-    blocks : blocks_of_runs l.runs.items ≡ blocks_of (take l.segment-index l.segments);
-    next : l.next ≡ l.start + length (blocks_of_runs l.runs.items) }
+  runs : AreRuns l.start l.runs.items;
+  blocks : blocks_of_runs l.runs.items ≡ blocks_of (take l.segment-index l.segments);
+  next : l.next ≡ l.start + length (blocks_of_runs l.runs.items);
+}

@@ -5,5 +5,6 @@ use Rattle.st_seg.proofs.part.part.Given as goal
 
 abbrev pub invariant-loop-range : goal.invariant-loop-range
 invariant-loop-range l = record {
-    blocks : blocks_of l.segments ++ take l.left (drop l.skip (blocks_of (drop l.range-index l.ranges))) ≡ take l.count (drop l.initial.skip (blocks_of l.ranges));
-    segments : All IsSegment l.segments }
+  blocks : blocks_of l.segments ++ take l.left (drop l.skip (blocks_of (drop l.range-index l.ranges))) ≡ take l.count (drop l.initial.skip (blocks_of l.ranges));
+  segments : All IsSegment l.segments;
+}

@@ -1,4 +1,4 @@
-use Rattle.std.proofs.Common.{◌≡◌, ◌+◌, ◌≤◌, ◌++◌, length, sym, subst, ap, ◌∙◌, arith}
+use Rattle.std.proofs.Common.{length, sym, subst, ap, arith}
 use Rattle.std.proofs.lemmas.List.{length-append}
 use Rattle.std.proofs.lemmas.List.Elements.{All-push}
 use Rattle.st_units.specs.declared.rows.Segment.{Segment}
@@ -21,7 +21,8 @@ invariant_of-self-2 c =
     let new = still_new c.self.inside.taken (blocks_of ranges) (blocks_in s) _ c.self.view_is c.requires.new in
     let e = blocks_of-push ranges s in
     rw c.in_ok-push.ensures.items (
-        omega arith,
-        omega (arith, ap length e, length-append (blocks_of ranges) (blocks_in s), length-blocks_from s.dev s.first s.blocks),
-        All-push IsSegment ranges s c.self.invariant.2 (omega arith, c.requires.some, c.requires.within),
-        subst NoneTwice (sym e) new)
+      omega arith,
+      omega (arith, ap length e, length-append (blocks_of ranges) (blocks_in s), length-blocks_from s.dev s.first s.blocks),
+      All-push IsSegment ranges s c.self.invariant.2 (omega arith, c.requires.some, c.requires.within),
+      subst NoneTwice (sym e) new,
+    )
