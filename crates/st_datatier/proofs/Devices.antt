@@ -1,5 +1,5 @@
 -- the blocks of devices in order: no block stands twice, and how many they are
-use Rattle.std.proofs.Common.{◌≡◌, ℕ, zero, suc, ◌+◌, ◌-◌, ◌*◌, ◌/◌, ◌<◌, ◌≤◌, inl, inr, Bool, cond, List, [], ◌∷◌, ◌++◌, length, get_or, take, drop, refl, sym, subst, ap, ap₂, ◌∙◌, arith}
+use Rattle.std.proofs.Common.{◌≡◌, ℕ, suc, ◌+◌, ◌-◌, ◌<◌, ◌≤◌, inl, inr, Bool, cond, List, [], ◌∷◌, ◌++◌, length, get_or, drop, refl, sym, ap, ap₂, ◌∙◌, arith}
 use Rattle.std.specs.List.{All, sum_by}
 use Rattle.std.proofs.Math.Dec.{eqb-suc-zero}
 use Rattle.std.proofs.lemmas.Bool.{cases_lt}
@@ -15,16 +15,18 @@ joined_apart xs ys dev h g here above i j d below within e =
     let n = length xs in
     let all : length (xs ++ ys) ≡ n + length ys = length-append xs ys in
     elim (cases_lt j n) [
-        inl second ↦ h i j d below second (sym (get_or_append_left xs ys d i (omega arith)) ∙ (e ∙ get_or_append_left xs ys d j second))
+      | inl second ↦ h i j d below second (sym (get_or_append_left xs ys d i (omega arith)) ∙ (e ∙ get_or_append_left xs ys d j second))
       | inr second ↦
           let at : get_or (xs ++ ys) j d ≡ get_or ys (j - n) d = get_or-append_right xs ys n j d refl second in
           elim (cases_lt i n) [
-              inl first ↦
-                  let same : get_or xs i d ≡ get_or ys (j - n) d = sym (get_or_append_left xs ys d i first) ∙ (e ∙ at) in
-                  absurd (omega (arith, here i d first, above (j - n) d (omega arith), ap (λ (b : Block). b.0) same))
-            | inr first ↦ g (i - n) (j - n) d (omega arith) (omega arith) (sym (get_or-append_right xs ys n i d refl first) ∙ (e ∙ at)) ] ]
+            | inl first ↦
+                let same : get_or xs i d ≡ get_or ys (j - n) d = sym (get_or_append_left xs ys d i first) ∙ (e ∙ at) in
+                absurd (omega (arith, here i d first, above (j - n) d (omega arith), ap (λ (b : Block). b.0) same))
+            | inr first ↦ g (i - n) (j - n) d (omega arith) (omega arith) (sym (get_or-append_right xs ys n i d refl first) ∙ (e ∙ at))
+          ]
+    ]
 
-device_apart : (dev first n : ℕ) → NoneTwice (blocks_from dev first n)
+pub device_apart : (dev first n : ℕ) → NoneTwice (blocks_from dev first n)
 device_apart dev first n i j d below within e =
     let short : j < n = omega (arith, length-blocks_from dev first n) in
     let same = sym (get_or-blocks_from dev first n i d (omega arith)) ∙ (e ∙ get_or-blocks_from dev first n j d short) in
@@ -37,8 +39,8 @@ from_device : (sectors : List ℕ) (dev : ℕ) → All (λ (b : Block). dev ≤ 
 from_device [] dev = All-nil (λ (b : Block). dev ≤ b.0)
 from_device (size ∷ more) dev =
     All-append (λ (b : Block). dev ≤ b.0) (blocks_from dev 0 (usable size)) (blocks_of_devices (dev + 1) more)
-        (All-weaker (λ (b : Block). b.0 ≡ dev) (λ (b : Block). dev ≤ b.0) (λ b h. omega arith) _ (of_device dev 0 (usable size)))
-        (All-weaker (λ (b : Block). dev + 1 ≤ b.0) (λ (b : Block). dev ≤ b.0) (λ b h. omega arith) _ (from_device more (dev + 1)))
+    (All-weaker (λ (b : Block). b.0 ≡ dev) (λ (b : Block). dev ≤ b.0) (λ b h. omega arith) _ (of_device dev 0 (usable size)))
+    (All-weaker (λ (b : Block). dev + 1 ≤ b.0) (λ (b : Block). dev ≤ b.0) (λ b h. omega arith) _ (from_device more (dev + 1)))
 
 none_apart : NoneTwice []
 none_apart i j d below within e = absurd (omega arith)
@@ -47,8 +49,8 @@ devices_apart : (sectors : List ℕ) (dev : ℕ) → NoneTwice (blocks_of_device
 devices_apart [] dev = none_apart
 devices_apart (size ∷ more) dev =
     joined_apart (blocks_from dev 0 (usable size)) (blocks_of_devices (dev + 1) more) dev
-        (device_apart dev 0 (usable size)) (devices_apart more (dev + 1)) (of_device dev 0 (usable size))
-        (All-weaker (λ (b : Block). dev + 1 ≤ b.0) (λ (b : Block). dev < b.0) (λ b h. omega arith) _ (from_device more (dev + 1)))
+    (device_apart dev 0 (usable size)) (devices_apart more (dev + 1)) (of_device dev 0 (usable size))
+    (All-weaker (λ (b : Block). dev + 1 ≤ b.0) (λ (b : Block). dev < b.0) (λ b h. omega arith) _ (from_device more (dev + 1)))
 
 dropped_apart : (n : ℕ) (blocks : List Block) → NoneTwice blocks → NoneTwice (drop n blocks)
 dropped_apart n blocks h i j d below within e =
@@ -62,8 +64,8 @@ length-devices : (sectors : List ℕ) (dev : ℕ) → length (blocks_of_devices 
 length-devices [] dev = refl
 length-devices (size ∷ more) dev =
     length-append (blocks_from dev 0 (usable size)) (blocks_of_devices (dev + 1) more)
-        ∙ (ap₂ (λ m n. m + n) (length-blocks_from dev 0 (usable size)) (length-devices more (dev + 1))
-        ∙ sym (sum_by-cons usable size more))
+    ∙ (ap₂ (λ m n. m + n) (length-blocks_from dev 0 (usable size)) (length-devices more (dev + 1))
+    ∙ sym (sum_by-cons usable size more))
 
 pub length-data_blocks : (sectors : List ℕ) → length (data_blocks sectors) ≡ room_of sectors
 unfolding data_blocks
@@ -100,10 +102,10 @@ data_blocks-push (first ∷ more) size h =
     let number : 0 + dev ≡ dev = omega arith in
     let whole : usable size ≡ usable size - 0 = omega arith in
     let last : blocks_from (0 + dev) 0 (usable size) ≡ blocks_from dev (first_block_of dev) (usable size - first_block_of dev) =
-        ap (λ n. blocks_from n 0 (usable size)) number ∙ (ap (blocks_from dev 0) whole ∙ ap (λ k. blocks_from dev k (usable size - k)) (sym (first_later (length more)))) in
+    ap (λ n. blocks_from n 0 (usable size)) number ∙ (ap (blocks_from dev 0) whole ∙ ap (λ k. blocks_from dev k (usable size - k)) (sym (first_later (length more)))) in
     ap (drop 26) (devices-push (first ∷ more) 0 size)
-        ∙ (drop-append-le 26 before (blocks_from (0 + dev) 0 (usable size)) enough
-        ∙ ap (λ bs. drop 26 before ++ bs) last)
+    ∙ (drop-append-le 26 before (blocks_from (0 + dev) 0 (usable size)) enough
+    ∙ ap (λ bs. drop 26 before ++ bs) last)
 
 pub no_blocks : data_blocks [] ≡ []
 unfolding data_blocks

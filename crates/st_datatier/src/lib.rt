@@ -5,7 +5,7 @@ mod add;
 mod size;
 mod tier;
 
-pub use size::{is_device_size, usable_blocks, FLEX_BLOCKS, MAX_SECTORS, MIN_SECTORS};
+pub use size::{FLEX_BLOCKS, MAX_SECTORS, MIN_SECTORS, is_device_size, usable_blocks};
 pub use tier::DataTier;
 
 /// The most devices that a pool has.

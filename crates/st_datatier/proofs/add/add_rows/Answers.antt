@@ -1,4 +1,4 @@
-use Rattle.std.proofs.Common.{refl, sym, subst, ap, ◌∙◌, arith}
+use Rattle.std.proofs.Common.{sym, subst, ap, ◌∙◌, arith}
 use Rattle.std.specs.List.{All}
 use Rattle.std.proofs.lemmas.List.Elements.{All-push}
 use Rattle.st_datatier.specs.Tier.{IsDeviceSize, data_blocks}
@@ -22,7 +22,8 @@ loop-row-preserved c =
     let i = c.loop-row.invariant in
     let size = row_size c.args.rows.now c.loop-row.row-index c.row-item.result (omega arith) c.row-item.is c.requires.more_sizes in
     record {
-        sectors = c.in_ok-add_device.ensures.sectors ∙ one_more_row c.args.sectors.now.items _ c.args.rows.now c.loop-row.row-index c.row-item.result (omega arith) c.row-item.is i.sectors;
-        sizes = subst (All IsDeviceSize) (sym c.in_ok-add_device.ensures.sectors) (All-push IsDeviceSize c.loop-row.sectors.items c.row-item.result.sectors i.sizes size);
-        blocks = c.in_ok-add_device.ensures.blocks ∙ ap data_blocks (sym c.in_ok-add_device.ensures.sectors);
-        taken = c.in_ok-add_device.ensures.taken ∙ i.taken }
+      sectors = c.in_ok-add_device.ensures.sectors ∙ one_more_row c.args.sectors.now.items _ c.args.rows.now c.loop-row.row-index c.row-item.result (omega arith) c.row-item.is i.sectors;
+      sizes = subst (All IsDeviceSize) (sym c.in_ok-add_device.ensures.sectors) (All-push IsDeviceSize c.loop-row.sectors.items c.row-item.result.sectors i.sizes size);
+      blocks = c.in_ok-add_device.ensures.blocks ∙ ap data_blocks (sym c.in_ok-add_device.ensures.sectors);
+      taken = c.in_ok-add_device.ensures.taken ∙ i.taken;
+    }

@@ -15,9 +15,9 @@ invariant_of-self-2 c =
     let s = c.self.inside in
     let i = c.self.invariant in
     let taken = ap (λ (stock : Stock). stock.taken) c.hand_out.ensures
-        ∙ (ap (λ bs. bs ++ take c.args.blocks s.free.free) i.2
-        ∙ (ap (λ bs. s.table ++ bs) (sym c.in_ok-segments.ensures.blocks)
-        ∙ sym c.in_ok-extend.ensures.ok)) in
+    ∙ (ap (λ bs. bs ++ take c.args.blocks s.free.free) i.2
+    ∙ (ap (λ bs. s.table ++ bs) (sym c.in_ok-segments.ensures.blocks)
+    ∙ sym c.in_ok-extend.ensures.ok)) in
     (i.0, i.1, taken, ap added c.hand_out.ensures ∙ (added-taking s.free c.args.blocks ∙ i.3))
 
 pub returns-in_err-segments-clause-no_room : goal.returns-in_err-segments-clause-no_room
@@ -26,8 +26,8 @@ returns-in_err-segments-clause-no_room c =
     let free = tier_free s.sectors.items s.free s.table _ c.self.view_is c.self.invariant.2 c.self.invariant.3 in
     let p = err_from_is_err_and c.from_residual.result c.from_residual.ensures.1 in
     λ below.
-        let fault : c.in_err-segments.field-0.0 ≡ NoRoom (length s.free.free) = cc (c.in_err-segments.ensures.no_room (omega (arith, free, below))) in
-        rw (free, p.1, p.2, fault)
+    let fault : c.in_err-segments.field-0.0 ≡ NoRoom (length s.free.free) = cc (c.in_err-segments.ensures.no_room (omega (arith, free, below))) in
+    rw (free, p.1, p.2, fault)
 
 pub returns-in_err-segments-clause-no_room_only : goal.returns-in_err-segments-clause-no_room_only
 returns-in_err-segments-clause-no_room_only c =
