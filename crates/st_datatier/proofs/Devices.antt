@@ -1,5 +1,5 @@
 -- the blocks of devices in order: no block stands twice, and how many they are
-use Rattle.std.proofs.Common.{◌≡◌, ℕ, zero, suc, ◌+◌, ◌-◌, ◌*◌, ◌/◌, ◌<◌, ◌≤◌, inl, inr, Bool, cond, List, [], ◌∷◌, ◌++◌, length, get_or, take, drop, refl, sym, subst, ap, ap₂, ◌∙◌, arith}
+use Rattle.std.proofs.Common.{◌≡◌, ℕ, suc, ◌+◌, ◌-◌, ◌<◌, ◌≤◌, inl, inr, Bool, cond, List, [], ◌∷◌, ◌++◌, length, get_or, drop, refl, sym, ap, ap₂, ◌∙◌, arith}
 use Rattle.std.specs.List.{All, sum_by}
 use Rattle.std.proofs.Math.Dec.{eqb-suc-zero}
 use Rattle.std.proofs.lemmas.Bool.{cases_lt}
@@ -26,7 +26,7 @@ joined_apart xs ys dev h g here above i j d below within e =
           ]
     ]
 
-device_apart : (dev first n : ℕ) → NoneTwice (blocks_from dev first n)
+pub device_apart : (dev first n : ℕ) → NoneTwice (blocks_from dev first n)
 device_apart dev first n i j d below within e =
     let short : j < n = omega (arith, length-blocks_from dev first n) in
     let same = sym (get_or-blocks_from dev first n i d (omega arith)) ∙ (e ∙ get_or-blocks_from dev first n j d short) in

@@ -1,12 +1,12 @@
 -- what the calls of a tier make of its blocks
-use Rattle.std.proofs.Common.{◌≡◌, ℕ, ◌+◌, ◌-◌, ◌<◌, ◌≤◌, List, [], ◌∷◌, ◌++◌, map, length, get_or, take, drop, refl, sym, subst, ap, ◌∙◌, arith}
+use Rattle.std.proofs.Common.{◌≡◌, ℕ, ◌+◌, ◌-◌, ◌<◌, ◌≤◌, List, [], ◌∷◌, ◌++◌, map, length, get_or, take, sym, subst, ap, ◌∙◌, arith}
 use Rattle.std.specs.List.{All}
 use Rattle.std.proofs.lemmas.List.{append_assoc, length-append, length-map, get_or-map, map_more, length-take-le}
 use Rattle.st_units.specs.declared.rows.DevRow.{DevRow}
 use Rattle.st_seg.specs.Blocks.{Block, NoneTwice, blocks_from}
 use Rattle.st_seg.specs.Stock.{Stock, added}
 use Rattle.st_datatier.specs.Tier.{Tier, IsDeviceSize, usable, data_blocks, room_of, free_of, first_block_of, sectors_of}
-use Rattle.st_datatier.proofs.Devices.{data_apart, data_blocks-push, length-data_blocks, room_fits}
+use Rattle.st_datatier.proofs.Devices.{data_apart, data_blocks-push, length-data_blocks}
 
 -- the blocks of one more device
 pub blocks_pushed : (sectors : List ℕ) (size : ℕ) (blocks : List Block) (dev first n : ℕ) → All IsDeviceSize sectors → blocks ≡ data_blocks sectors → dev ≡ length sectors → first ≡ first_block_of dev → n ≡ usable size → blocks ++ blocks_from dev first (n - first) ≡ data_blocks (sectors ++ size ∷ [])

@@ -1,5 +1,5 @@
 -- the data tier: its devices in order, and how many of their blocks are in use
-use Rattle.std.specs.Prelude.{ℕ, ◌+◌, ◌-◌, ◌/◌, ◌≤◌, ◌^◌, ◌==◌, List, [], ◌∷◌, ◌++◌, map, length, take, drop, sum_by, if◌then◌else◌}
+use Rattle.std.specs.Prelude.{ℕ, ◌+◌, ◌-◌, ◌/◌, ◌≤◌, ◌==◌, List, [], ◌∷◌, ◌++◌, map, drop, sum_by, if◌then◌else◌}
 use Rattle.st_units.specs.declared.rows.DevRow.{DevRow}
 use Rattle.st_seg.specs.Blocks.{Block, blocks_from}
 use Rattle.st_linear.specs.declared.TheConstants.{FIRST_USABLE_SECTOR, BLOCK_SECTORS}

@@ -1,13 +1,12 @@
 -- the place of a block, by the run that it lies in; places of different blocks differ
-use Rattle.std.proofs.Common.{◌≡◌, ◌≢◌, ◌⊎◌, inl, inr, ℕ, zero, suc, ◌+◌, ◌-◌, ◌*◌, ◌<◌, ◌≤◌, List, [], ◌∷◌, ◌++◌, length, get_or, take, Some, None, refl, sym, subst, ap, ap₂, ◌∙◌, arith}
-use Rattle.std.specs.List.{All, flat_map, slice_get}
+use Rattle.std.proofs.Common.{◌≡◌, ◌≢◌, inl, inr, ℕ, zero, suc, ◌+◌, ◌-◌, ◌*◌, ◌<◌, ◌≤◌, List, [], ◌∷◌, ◌++◌, length, get_or, take, Some, refl, sym, subst, ap, ap₂, ◌∙◌, arith}
 use Rattle.std.specs.List.Sorted.{IsPartitionPoint}
 use Rattle.std.specs.Option.{option_map}
-use Rattle.std.proofs.lemmas.List.{length-append, take_all, get_or_append_left}
+use Rattle.std.proofs.lemmas.List.{take_all}
 use Rattle.std.proofs.lemmas.List.Concat.{get_or-flat_map}
 use Rattle.std.proofs.lemmas.Bool.{cases_lt, cases_order}
 use Rattle.std.proofs.lemmas.Option.{slice_get-get_or}
-use Rattle.st_seg.specs.Blocks.{Block, IsSegment, NoneTwice, blocks_in, blocks_from}
+use Rattle.st_seg.specs.Blocks.{Block, IsSegment, NoneTwice, blocks_in}
 use Rattle.st_seg.proofs.Parts.{length-blocks_from, get_or-blocks_from}
 use Rattle.st_linear.specs.declared.table.Run.{Run}
 use Rattle.st_linear.specs.Places.{place_of, place_at}

@@ -1,11 +1,11 @@
 -- what one more segment makes of the blocks that an allocator has
-use Rattle.std.proofs.Common.{◌≡◌, ℕ, ◌+◌, ◌^◌, ◌≤◌, List, [], ◌∷◌, ◌++◌, length, take, drop, refl, sym, subst, ap, ◌∙◌, arith}
+use Rattle.std.proofs.Common.{◌≡◌, ℕ, ◌+◌, ◌≤◌, List, [], ◌∷◌, ◌++◌, length, take, drop, sym, subst, ap, ◌∙◌, arith}
 use Rattle.std.specs.List.{All}
 use Rattle.std.proofs.lemmas.List.{append-nil, take-append-drop, length-append}
 use Rattle.std.proofs.lemmas.List.Elements.{All-push}
 use Rattle.std.proofs.lemmas.Grind.{flat_map-append}
 use Rattle.st_units.specs.declared.rows.Segment.{Segment}
-use Rattle.st_seg.specs.Blocks.{Block, IsSegment, NoneTwice, blocks_from, blocks_in, blocks_of}
+use Rattle.st_seg.specs.Blocks.{Block, IsSegment, NoneTwice, blocks_in, blocks_of}
 use Rattle.st_seg.specs.Stock.{Stock, added}
 use Rattle.st_seg.proofs.Parts.{length-blocks_from}
 use Rattle.st_seg.proofs.Few.{few_blocks, all_fit}

@@ -1,5 +1,5 @@
 -- every list of calls hands blocks out in the order in which they were added
-use Rattle.std.proofs.Common.{◌≡◌, ℕ, ◌+◌, ◌<◌, Bool, true, false, List, [], ◌∷◌, ◌++◌, length, get_or, take, drop, nat_le, if◌then◌else◌, refl, sym, subst, ap, ◌∙◌, arith}
+use Rattle.std.proofs.Common.{◌≡◌, ℕ, Bool, true, false, List, [], ◌∷◌, ◌++◌, length, take, drop, nat_le, if◌then◌else◌, refl, sym, subst, ap, ◌∙◌, arith}
 use Rattle.std.proofs.lemmas.List.{append-nil, append_assoc, take-append-drop, get_or_append_left, length-append}
 use Rattle.st_seg.specs.Blocks.{Block, NoneTwice}
 use Rattle.st_seg.specs.Stock.{Stock, empty_stock, with_blocks, after_taking, added}

@@ -1,11 +1,11 @@
 -- what a taking makes of the blocks that an allocator has, and the step of the walk that finds the segments
-use Rattle.std.proofs.Common.{◌≡◌, ℕ, zero, suc, ◌+◌, ◌-◌, ◌<◌, List, [], ◌∷◌, ◌++◌, length, get_or, take, drop, Option, Some, None, option_to_list, IfSome, refl, sym, subst, ap, ap₂, ◌∙◌, arith}
+use Rattle.std.proofs.Common.{◌≡◌, ℕ, zero, suc, ◌+◌, ◌-◌, ◌<◌, List, [], ◌∷◌, ◌++◌, length, get_or, take, drop, Option, Some, None, option_to_list, IfSome, refl, sym, ap, ap₂, ◌∙◌, arith}
 use Rattle.std.specs.List.{All}
 use Rattle.std.proofs.lemmas.List.{append_assoc, drop-drop, at_drop_more}
 use Rattle.std.proofs.lemmas.List.Elements.{All-nil, All-cons}
 use Rattle.std.proofs.lemmas.Grind.{flat_map-append}
 use Rattle.st_units.specs.declared.rows.Segment.{Segment}
-use Rattle.st_seg.specs.Blocks.{Block, IsSegment, blocks_from, blocks_in, blocks_of}
+use Rattle.st_seg.specs.Blocks.{Block, IsSegment, blocks_in, blocks_of}
 use Rattle.st_seg.specs.Stock.{Stock, after_taking}
 use Rattle.st_seg.proofs.Parts.{length-blocks_from, part-append}
 

@@ -1,6 +1,6 @@
 -- usable blocks of devices, and segments of them
-use Rattle.std.specs.Prelude.{ℕ, ◌+◌, ◌*◌, ◌^◌, ◌<◌, ◌≤◌, ◌≢◌, List, map}
-use Rattle.std.specs.List.{All, AllPairs, flat_map, range_with_len}
+use Rattle.std.specs.Prelude.{ℕ, ◌+◌, ◌^◌, ◌<◌, ◌≤◌, ◌≢◌, List, map}
+use Rattle.std.specs.List.{AllPairs, flat_map, range_with_len}
 use Rattle.st_units.specs.declared.rows.Segment.{Segment}
 
 -- a block: the number of its device, and its own among the usable blocks of that device

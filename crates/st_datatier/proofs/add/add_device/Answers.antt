@@ -1,4 +1,4 @@
-use Rattle.std.proofs.Common.{◌≡◌, length, sym, ap, ◌∙◌, arith}
+use Rattle.std.proofs.Common.{◌≡◌, length, ap, ◌∙◌, arith}
 use Rattle.st_seg.specs.Stock.{added}
 use Rattle.st_seg.proofs.Calls.{added-adding}
 use Rattle.st_datatier.proofs.Growing.{blocks_pushed, pushed_apart}

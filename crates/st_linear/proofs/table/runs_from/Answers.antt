@@ -1,5 +1,4 @@
-use Rattle.std.proofs.Common.{◌≡◌, ◌+◌, length, refl, arith}
-use Rattle.st_linear.specs.Runs.{AreRuns, blocks_of_runs}
+use Rattle.std.proofs.Common.{refl, arith}
 use Rattle.st_linear.proofs.Runs.{AreRuns-append, next_fits, blocks_pushed, next_pushed}
 use Rattle.st_linear.proofs.table.runs_from.Goals as goal
 

@@ -1,4 +1,4 @@
-use Rattle.std.proofs.Common.{leb, leb-true, leb-false, arith, rules}
+use Rattle.std.proofs.Common.{leb, leb-true, leb-false, rules}
 use Rattle.std.proofs.lemmas.List.Sorted.{IsPartitionPoint-from_clause, IsPartitionedBy-leb}
 use Rattle.st_linear.specs.declared.table.Run.{Run}
 use Rattle.st_linear.proofs.table.runs_up_to.Goals as goal

@@ -1,7 +1,6 @@
-use Rattle.std.proofs.Common.{arith, option_to_list, ◌++◌}
-use Rattle.std.specs.List.{All}
+use Rattle.std.proofs.Common.{arith, option_to_list}
 use Rattle.std.proofs.lemmas.List.Elements.{All-append}
-use Rattle.st_seg.specs.Blocks.{IsSegment, blocks_in, blocks_of}
+use Rattle.st_seg.specs.Blocks.{IsSegment}
 use Rattle.st_seg.proofs.Taking.{part_step, All-option}
 use Rattle.st_seg.proofs.part.part.Goals as goal
 

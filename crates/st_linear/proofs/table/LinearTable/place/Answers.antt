@@ -1,4 +1,4 @@
-use Rattle.std.proofs.Common.{arith, ◌≤◌, ◌<◌}
+use Rattle.std.proofs.Common.{arith}
 use Rattle.st_linear.proofs.Runs.{starts_rise}
 use Rattle.st_linear.proofs.Places.{some_run_before, lies_in}
 use Rattle.st_linear.proofs.table.LinearTable.place.Goals as goal
