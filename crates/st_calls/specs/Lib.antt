@@ -1,5 +1,3 @@
 pub mod Form
-
 pub mod Gives
-
 pub mod Names

@@ -1,17 +1,10 @@
 pub mod Answer
-
 pub mod History
-
 pub mod Laws
-
 pub mod Look
-
 pub mod Step
-
 pub mod Sums
-
 pub mod Valid
-
+pub mod ValidPool
 pub mod Wanted
-
 pub mod steps

@@ -1,7 +1,8 @@
 -- what reports say of a pool's space; all counts are of blocks
-use Rattle.std.specs.Prelude.{ℕ, ◌+◌, ◌-◌, ◌/◌, ◌^◌, ◌≤◌, List, [], ◌∷◌, length, sum, map, filter}
+use Rattle.std.specs.Prelude.{ℕ, ◌+◌, ◌-◌, ◌/◌, ◌^◌, ◌≤◌, List, [], ◌∷◌, length, sum, map, filter, not}
 use Rattle.std.specs.List.{AllByRecursion}
 use Rattle.st_units.specs.declared.rows.DevRow.{DevRow}
+use Rattle.st_model.specs.declared.state.FsState.{FsState}
 use Rattle.st_model.specs.declared.state.PoolState.{PoolState}
 use Rattle.st_model.specs.steps.CreatePool.{is_data}
 
@@ -16,6 +17,14 @@ blocks_of (row ∷ rows) = usable_blocks row.sectors + blocks_of rows
 -- the blocks of the data tier, less the 26 that the records take on its first device
 abbrev pub room : PoolState → ℕ
 room pool = blocks_of (filter (λ (row : DevRow). is_data row.tier) pool.devices) - 26
+
+-- the devices of the cache tier
+abbrev pub cache_rows : List DevRow → List DevRow
+cache_rows rows = filter (λ (row : DevRow). not (is_data row.tier)) rows
+
+-- the entries of all maps
+abbrev pub mappings : PoolState → ℕ
+mappings pool = sum (map (λ (fs : FsState). length fs.map) pool.filesystems)
 
 -- the distinct cells that are mapped: a state has just the cells that some map names
 abbrev pub used : PoolState → ℕ

@@ -1,3 +1,2 @@
 pub mod CreatePool
-
 pub mod EngineStateReport

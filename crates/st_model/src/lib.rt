@@ -18,7 +18,9 @@ pub use answer::code_of;
 pub use call::{Call, Payload, PoolId};
 pub use entry::{Entry, EntryList, Env, Event, Log, Origin};
 pub use gate::{Gate, NoGate};
-pub use info::{CacheInfo, FsInfo, FsInfoList, Infos, PoolInfo, ShownMode, StoppedList, StoppedRow, TableInfo};
+pub use info::{
+    CacheInfo, FsInfo, FsInfoList, Infos, PoolInfo, ShownMode, StoppedList, StoppedRow, TableInfo,
+};
 pub use laws::step_keeps_validity;
 pub use number_map::NumberMap;
 pub use reply::{Given, Identity, NewFs, Reply};

@@ -90,10 +90,7 @@ pub(crate) fn pool_using<'a>(pools: &'a [PoolState], path: &DevPath) -> Option<&
     pools.iter().find(|pool| uses(pool, path))
 }
 
-pub(crate) fn first_used<'a>(
-    paths: &'a [DevPath],
-    pools: &[PoolState],
-) -> Option<&'a DevPath>
+pub(crate) fn first_used<'a>(paths: &'a [DevPath], pools: &[PoolState]) -> Option<&'a DevPath>
     ensures { option_copied result ≡ first_used paths.now pools.now }
 {
     paths.iter().find(|path| pool_using(pools, path).is_some())

@@ -102,7 +102,7 @@ module _ (lines : List (List ℕ)) (i k : ℕ) (log : List Event) (want : Want) 
     later = λ m g. counted m ∙ (let none = h.later m (omega (arith, g)) in let other : cond {A = ℕ} (i + 1 == m) 1 0 ≡ 0 = rw (other_line i m g) refl in omega (arith, none, other));
     once = λ m. subst (λ (c : ℕ). c ≤ 1) (sym (counted m)) (one_more (i + 1 == m) (count_from m (entries_of log)) i m refl (h.later m) (h.once m));
     order = λ a b p s u t v m n c d x f w g o lt at.
-      order_more a b p s u t v m n c d x f w g.from g.call o.from o.call lt (stands_more log 1 k want entries e a s t x alone g.stands) (stands_more log 1 k want entries e b u v f alone o.stands) (arrives_more log 1 k want w entries p u v at);
+        order_more a b p s u t v m n c d x f w g.from g.call o.from o.call lt (stands_more log 1 k want entries e a s t x alone g.stands) (stands_more log 1 k want entries e b u v f alone o.stands) (arrives_more log 1 k want w entries p u v at);
   }
 
 -- on one lane each call's lane is 0
@@ -113,9 +113,10 @@ pub laned-LaneOrder : (lines : List (List ℕ)) (i k : ℕ) (log : List Event) �
 laned-LaneOrder lines i k log h = record {
   once = h.once;
   calls = λ place s t n e g from. (let x = h.known place s t e g in (x.lane, rw (line_number n x.n e from x.from) x.call));
-  seats = λ a b s u t v m n c d e f g o.
-    (λ same. (h.known a s t e g.stands).seat_is ∙ sym (h.known b u v f o.stands).seat_is,
-     λ same. lane_zero lines m c e g.call ∙ sym (lane_zero lines n d f o.call));
+  seats = λ a b s u t v m n c d e f g o. (
+    λ same. (h.known a s t e g.stands).seat_is ∙ sym (h.known b u v f o.stands).seat_is,
+    λ same. lane_zero lines m c e g.call ∙ sym (lane_zero lines n d f o.call),
+  );
   apart = λ place s t n lane e g zero_seat. (let one = (h.known place s t e g.stands).seat_is in absurd (omega (arith, one, zero_seat)));
   order = λ a b p s u t v m n c e f w g o lt at. h.order a b p s u t v m n c c e f w g o lt at;
   no_other = λ place s t e g. (let x = h.known place s t e g in (x.n, x.from));

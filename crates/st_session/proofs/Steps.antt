@@ -183,5 +183,5 @@ answer_more lines s0 i line old new answer answers h at g len all j l a lj aj = 
         let own = own_answer i line old new answer (none_yet lines s0 i (i + 1) old h (omega arith)) g in
         let number : i + 1 ≡ j + 1 = omega (arith, here) in
         subst (λ (n : ℕ). IsAnswer 1 n l new.log.items a) number
-          (subst (λ (x : Answer). IsAnswer 1 (i + 1) l new.log.items x) last.1
-            (subst (λ (x : List ℕ). IsAnswer 1 (i + 1) x new.log.items answer) (same_line lines i j line l here at lj) own))
+        (subst (λ (x : Answer). IsAnswer 1 (i + 1) l new.log.items x) last.1
+        (subst (λ (x : List ℕ). IsAnswer 1 (i + 1) x new.log.items answer) (same_line lines i j line l here at lj) own))

@@ -40,4 +40,3 @@ pub record IsGoing (lines : List (List ℕ)) (s0 : EngineState) (i : ℕ) (sessi
   pub valid : IsValid session.state
   pub few : session.tickets ≤ i
   pub laned : IsLaned lines i session.tickets session.log.items
-

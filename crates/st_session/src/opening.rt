@@ -1,4 +1,5 @@
 ghost use Rattle.std.specs.Prelude.{◌≡◌, ◌<◌, IfOk, IfSome, length, slice_get};
+ghost use Rattle.st_rack.specs.Calls.{Rises};
 ghost use Rattle.st_session.specs.Opening.{row_of, opening};
 
 use st_model::EngineState;
@@ -24,10 +25,12 @@ fn device<R: Rack>(rack: &R, i: usize) -> Result<DevRow, NoMemory>
 
 /// The state in which a run begins on this rack.
 pub(crate) fn opening<R: Rack>(alloc: Global, rack: &R) -> Result<EngineState, NoMemory>
-    ensures { IfOk result (λ state. state ≡ opening (R.devs rack.now)) }
+    ensures state { IfOk result (λ state. state ≡ opening (R.devs rack.now)) }
+    ensures rises { Rises (R.devs rack.now) }
 {
     let mut devices = DevRows::make(alloc);
-    for i in 0..rack.devices() {
+    let count = rack.devices();
+    for i in 0..count {
         devices.push(device(rack, i)?)?;
     }
     Ok(EngineState {

@@ -1,4 +1,4 @@
-ghost use Rattle.std.specs.Prelude.{ℕ, ◌≡◌, ◌+◌, ◌-◌, ◌≤◌, ◌^◌, ◌<◌, IfOk, OnOk, OnErr, length, if◌then◌else◌};
+ghost use Rattle.std.specs.Prelude.{ℕ, ◌≡◌, ◌+◌, ◌-◌, ◌≤◌, ◌^◌, ◌<◌, IfOk, OnOk, OnErr, length, [], if◌then◌else◌};
 ghost use Rattle.std.specs.Io.KnownBytes.{Appends};
 ghost use Rattle.st_lines.specs.Causes.{Rose};
 ghost use Rattle.st_session.specs.Out.{fault_line, trace_of, summary};
@@ -76,19 +76,14 @@ fn reply_at(log: &Log, number: u64, place: usize) -> &Reply
     }
 }
 
-fn line_text(
-    alloc: Global,
-    log: &Log,
-    number: u64,
-    answer: Answer,
-) -> Result<LineText, NoMemory>
-    requires { IsShown number log.now.items answer }
-    ensures text { IfOk result (λ line. line.text ≡ shown_line number log.now.items answer) }
-    ensures ok { IfOk result (λ line. line.ok ≡ shown_ok number log.now.items answer) }
+fn line_text(alloc: Global, log: &Log, number: u64, answer: &Answer) -> Result<LineText, NoMemory>
+    requires { IsShown number log.now.items answer.now }
+    ensures text { IfOk result (λ line. line.text ≡ shown_line number log.now.items answer.now) }
+    ensures ok { IfOk result (λ line. line.ok ≡ shown_ok number log.now.items answer.now) }
 {
     match answer {
         Answer::Ran(place) => {
-            let reply = reply_at(log, number, place);
+            let reply = reply_at(log, number, *place);
             let text = reply_line(alloc, number, reply)?;
             Ok(LineText {
                 text,
@@ -96,7 +91,7 @@ fn line_text(
             })
         }
         Answer::Fault(fault) => {
-            let text = fault_line(alloc, number, fault)?;
+            let text = fault_line(alloc, number, *fault)?;
             Ok(LineText { text, ok: false })
         }
         Answer::Refused => {
@@ -141,7 +136,7 @@ fn print_replies<K: Sink>(
     let mut number = 1u64;
     let mut oks = 0u64;
     for answer in answers {
-        let line = line_text(alloc, log, number, *answer)?;
+        let line = line_text(alloc, log, number, answer)?;
         print(sink, outlet, line.text.items())?;
         oks = next_count(oks, line.ok);
         number += 1;
@@ -193,6 +188,13 @@ fn print_summary<K: Sink>(
     Ok(())
 }
 
+/// The events that are printed: all of them, or none.
+fn traced(log: &Log, trace: bool) -> &[Event]
+    ensures { result.now ≡ (if trace then log.now.items else []) }
+{
+    if trace { log.items() } else { &[] }
+}
+
 /// Writes the whole output: the reply lines, the trace where it is asked for, and the summary.
 pub(crate) fn write_out<K: Sink>(
     alloc: Global,
@@ -209,8 +211,7 @@ pub(crate) fn write_out<K: Sink>(
 {
     let mut outlet = Outlet::make(alloc)?;
     let oks = print_replies(alloc, sink, &mut outlet, log, answers)?;
-    let events = if trace { log.items() } else { &[] };
-    print_trace(alloc, sink, &mut outlet, events)?;
+    print_trace(alloc, sink, &mut outlet, traced(log, trace))?;
     print_summary(alloc, sink, &mut outlet, answers.len() as u64, oks)?;
     outlet.flush(sink)?;
     Ok(())

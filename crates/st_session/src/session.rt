@@ -3,7 +3,9 @@ ghost use Rattle.st_model.specs.Valid.{IsValid};
 ghost use Rattle.st_calls.specs.Form.{form};
 
 use st_calls::{LineFault, read_call};
-use st_model::{Call, EngineState, Entry, EntryList, Env, Event, Gate, Log, Origin, Reply, step, want_of};
+use st_model::{
+    Call, EngineState, Entry, EntryList, Env, Event, Gate, Log, Origin, Reply, step, want_of,
+};
 use st_units::{Cause, NoMemory};
 use st_wants::Want;
 use std::alloc::Global;
@@ -15,7 +17,7 @@ pub(crate) const LANES: u8 = 1;
 const SEAT: u64 = 1;
 
 /// What became of a line.
-#[derive(Clone, Copy, Drop)]
+#[derive(Drop)]
 pub enum Answer {
     /// Its call ran; the release of its ticket stands at this place of the log.
     Ran(usize),

@@ -84,7 +84,11 @@ fn run_input<K: Sink, R: Rack, G: Gate>(
         tickets: 0,
     };
     let ran = run_lines(alloc, gate, &mut session, lines);
-    let Session { state: _state, log, tickets: _ } = session;
+    let Session {
+        state: _state,
+        log,
+        tickets: _,
+    } = session;
     let Ok(answers) = ran else {
         return Outcome {
             status: Status::OutOfMemory,
@@ -102,7 +106,13 @@ fn run_input<K: Sink, R: Rack, G: Gate>(
 /// Nothing is written before all lines have run. The rack comes back as it was handed in, and the
 /// log of the lock with it. Want of memory may end a run at any moment; each other status has its
 /// cause as a clause.
-pub fn run_words<W: Threads + Wait + Copy + Sync, S: Source, K: Sink, R: Rack + Send, G: Gate + Sync>(
+pub fn run_words<
+    W: Threads + Wait + Copy + Sync,
+    S: Source,
+    K: Sink,
+    R: Rack + Send,
+    G: Gate + Sync,
+>(
     rt: &W,
     alloc: Global,
     words: &[String],

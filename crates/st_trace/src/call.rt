@@ -2,8 +2,13 @@ ghost use Rattle.std.specs.Prelude.{◌≡◌, IfOk};
 ghost use Rattle.serde_json.specs.View.{view};
 ghost use Rattle.st_trace.specs.Calls.{call_data};
 
-use crate::fs_call::{create_fs_call, destroy_fs_call, fs_limit_call, overprovisioning_call, read_call, rename_fs_call, size_limit_call, snapshot_call, write_value};
-use crate::pool_call::{bare_call, create_call, devices_call, named_call, pool_call, rename_call, start_value};
+use crate::fs_call::{
+    create_fs_call, destroy_fs_call, fs_limit_call, overprovisioning_call, read_call,
+    rename_fs_call, size_limit_call, snapshot_call, write_value,
+};
+use crate::pool_call::{
+    bare_call, create_call, devices_call, named_call, pool_call, rename_call, start_value,
+};
 use serde_json::Value;
 use st_model::Call;
 use st_units::NoMemory;
@@ -30,12 +35,18 @@ pub(crate) fn call_value(alloc: Global, call: &Call) -> Result<Value, NoMemory>
         Call::SetSizeLimit { pool, name, limit } => size_limit_call(alloc, pool, name, *limit),
         Call::SetFsLimit { pool, limit } => fs_limit_call(alloc, pool, *limit),
         Call::SetOverprovisioning { pool, value } => overprovisioning_call(alloc, pool, *value),
-        Call::FsWrite { pool, name, sector, payload } => {
-            write_value(alloc, pool, name, *sector, payload)
-        }
-        Call::FsRead { pool, name, sector, sectors } => {
-            read_call(alloc, pool, name, *sector, *sectors)
-        }
+        Call::FsWrite {
+            pool,
+            name,
+            sector,
+            payload,
+        } => { write_value(alloc, pool, name, *sector, payload) }
+        Call::FsRead {
+            pool,
+            name,
+            sector,
+            sectors,
+        } => { read_call(alloc, pool, name, *sector, *sectors) }
         Call::Check { pool } => pool_call(alloc, "Check", pool),
         Call::PoolReport { pool } => pool_call(alloc, "PoolReport", pool),
         Call::EngineStateReport => bare_call(alloc, "EngineStateReport"),

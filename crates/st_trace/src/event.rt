@@ -73,8 +73,18 @@ fn entry_value(alloc: Global, entry: &Entry) -> Result<Value, NoMemory>
     let mut members = Map::new(alloc);
     put(&mut members, alloc, "call", call_value(alloc, &entry.call)?)?;
     put(&mut members, alloc, "env", env_value(alloc, &entry.env)?)?;
-    put(&mut members, alloc, "from", origin_value(alloc, entry.from)?)?;
-    put(&mut members, alloc, "reply", reply_value(alloc, &entry.reply)?)?;
+    put(
+        &mut members,
+        alloc,
+        "from",
+        origin_value(alloc, entry.from)?,
+    )?;
+    put(
+        &mut members,
+        alloc,
+        "reply",
+        reply_value(alloc, &entry.reply)?,
+    )?;
     Ok(Value::Object(members))
 }
 
@@ -122,7 +132,12 @@ fn release_value(
     ensures { IfOk result (λ value. view value ≡ release_data seat ticket entries.now) }
 {
     let mut members = Map::new(alloc);
-    put(&mut members, alloc, "entries", entries_value(alloc, entries)?)?;
+    put(
+        &mut members,
+        alloc,
+        "entries",
+        entries_value(alloc, entries)?,
+    )?;
     put(&mut members, alloc, "event", text(alloc, "release")?)?;
     put(&mut members, alloc, "seat", Value::from(seat))?;
     put(&mut members, alloc, "ticket", Value::from(ticket))?;

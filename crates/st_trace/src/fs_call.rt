@@ -11,10 +11,7 @@ use st_units::{Bytes, FsSpec, FsSpecList, Name, NameList, NoMemory};
 use std::alloc::Global;
 
 #[tactic(auto, unfolding(crate::specs::Calls::fs_spec))]
-fn fs_spec(
-    alloc: Global,
-    fs: &FsSpec,
-) -> Result<Value, NoMemory>
+fn fs_spec(alloc: Global, fs: &FsSpec) -> Result<Value, NoMemory>
     ensures { IfOk result (λ value. view value ≡ fs_spec fs.now) }
 {
     let mut members = Map::new(alloc);
@@ -55,8 +52,18 @@ pub(crate) fn create_fs_call(
     ensures { IfOk result (λ value. view value ≡ create_fs_call pool.now filesystems.now) }
 {
     let mut members = Map::new(alloc);
-    put(&mut members, alloc, "call", text(alloc, "CreateFilesystems")?)?;
-    put(&mut members, alloc, "filesystems", fs_specs(alloc, filesystems.items())?)?;
+    put(
+        &mut members,
+        alloc,
+        "call",
+        text(alloc, "CreateFilesystems")?,
+    )?;
+    put(
+        &mut members,
+        alloc,
+        "filesystems",
+        fs_specs(alloc, filesystems.items())?,
+    )?;
     put(&mut members, alloc, "pool", text(alloc, pool.as_str())?)?;
     Ok(Value::Object(members))
 }
@@ -70,8 +77,18 @@ pub(crate) fn destroy_fs_call(
     ensures { IfOk result (λ value. view value ≡ destroy_fs_call pool.now names.now) }
 {
     let mut members = Map::new(alloc);
-    put(&mut members, alloc, "call", text(alloc, "DestroyFilesystems")?)?;
-    put(&mut members, alloc, "names", name_texts(alloc, names.items())?)?;
+    put(
+        &mut members,
+        alloc,
+        "call",
+        text(alloc, "DestroyFilesystems")?,
+    )?;
+    put(
+        &mut members,
+        alloc,
+        "names",
+        name_texts(alloc, names.items())?,
+    )?;
     put(&mut members, alloc, "pool", text(alloc, pool.as_str())?)?;
     Ok(Value::Object(members))
 }
@@ -86,7 +103,12 @@ pub(crate) fn snapshot_call(
     ensures { IfOk result (λ value. view value ≡ snapshot_call pool.now origin.now name.now) }
 {
     let mut members = Map::new(alloc);
-    put(&mut members, alloc, "call", text(alloc, "SnapshotFilesystem")?)?;
+    put(
+        &mut members,
+        alloc,
+        "call",
+        text(alloc, "SnapshotFilesystem")?,
+    )?;
     put(&mut members, alloc, "name", text(alloc, name.as_str())?)?;
     put(&mut members, alloc, "origin", text(alloc, origin.as_str())?)?;
     put(&mut members, alloc, "pool", text(alloc, pool.as_str())?)?;
@@ -103,7 +125,12 @@ pub(crate) fn rename_fs_call(
     ensures { IfOk result (λ value. view value ≡ rename_fs_call pool.now name.now new.now) }
 {
     let mut members = Map::new(alloc);
-    put(&mut members, alloc, "call", text(alloc, "RenameFilesystem")?)?;
+    put(
+        &mut members,
+        alloc,
+        "call",
+        text(alloc, "RenameFilesystem")?,
+    )?;
     put(&mut members, alloc, "name", text(alloc, name.as_str())?)?;
     put(&mut members, alloc, "new", text(alloc, new.as_str())?)?;
     put(&mut members, alloc, "pool", text(alloc, pool.as_str())?)?;
@@ -128,11 +155,7 @@ pub(crate) fn size_limit_call(
 }
 
 #[tactic(auto, unfolding(crate::specs::Calls::fs_limit_call))]
-pub(crate) fn fs_limit_call(
-    alloc: Global,
-    pool: &Name,
-    limit: u64,
-) -> Result<Value, NoMemory>
+pub(crate) fn fs_limit_call(alloc: Global, pool: &Name, limit: u64) -> Result<Value, NoMemory>
     ensures { IfOk result (λ value. view value ≡ fs_limit_call pool.now limit) }
 {
     let mut members = Map::new(alloc);
@@ -151,7 +174,12 @@ pub(crate) fn overprovisioning_call(
     ensures { IfOk result (λ made. view made ≡ overprovisioning_call pool.now value) }
 {
     let mut members = Map::new(alloc);
-    put(&mut members, alloc, "call", text(alloc, "SetOverprovisioning")?)?;
+    put(
+        &mut members,
+        alloc,
+        "call",
+        text(alloc, "SetOverprovisioning")?,
+    )?;
     put(&mut members, alloc, "pool", text(alloc, pool.as_str())?)?;
     put(&mut members, alloc, "value", Value::from(value))?;
     Ok(Value::Object(members))
@@ -190,7 +218,12 @@ fn hex_call(
 {
     let mut members = Map::new(alloc);
     put(&mut members, alloc, "call", text(alloc, "FsWrite")?)?;
-    put(&mut members, alloc, "hex", Value::String(hex::encode(alloc, bytes.items())?))?;
+    put(
+        &mut members,
+        alloc,
+        "hex",
+        Value::String(hex::encode(alloc, bytes.items())?),
+    )?;
     put(&mut members, alloc, "name", text(alloc, name.as_str())?)?;
     put(&mut members, alloc, "pool", text(alloc, pool.as_str())?)?;
     put(&mut members, alloc, "sector", Value::from(sector))?;

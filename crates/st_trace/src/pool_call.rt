@@ -17,10 +17,7 @@ pub(crate) fn text(alloc: Global, text: &str) -> Result<Value, NoMemory>
 }
 
 #[tactic(auto, unfolding(crate::specs::Calls::bare_call))]
-pub(crate) fn bare_call(
-    alloc: Global,
-    call: &str,
-) -> Result<Value, NoMemory>
+pub(crate) fn bare_call(alloc: Global, call: &str) -> Result<Value, NoMemory>
     ensures { IfOk result (λ value. view value ≡ bare_call call.now) }
 {
     let mut members = Map::new(alloc);
@@ -29,11 +26,7 @@ pub(crate) fn bare_call(
 }
 
 #[tactic(auto, unfolding(crate::specs::Calls::named_call))]
-pub(crate) fn named_call(
-    alloc: Global,
-    call: &str,
-    name: &Name,
-) -> Result<Value, NoMemory>
+pub(crate) fn named_call(alloc: Global, call: &str, name: &Name) -> Result<Value, NoMemory>
     ensures { IfOk result (λ value. view value ≡ named_call call.now name.now) }
 {
     let mut members = Map::new(alloc);
@@ -43,11 +36,7 @@ pub(crate) fn named_call(
 }
 
 #[tactic(auto, unfolding(crate::specs::Calls::pool_call))]
-pub(crate) fn pool_call(
-    alloc: Global,
-    call: &str,
-    pool: &Name,
-) -> Result<Value, NoMemory>
+pub(crate) fn pool_call(alloc: Global, call: &str, pool: &Name) -> Result<Value, NoMemory>
     ensures { IfOk result (λ value. view value ≡ pool_call call.now pool.now) }
 {
     let mut members = Map::new(alloc);
@@ -57,26 +46,23 @@ pub(crate) fn pool_call(
 }
 
 #[tactic(auto, unfolding(crate::specs::Calls::create_call))]
-pub(crate) fn create_call(
-    alloc: Global,
-    name: &Name,
-    devices: &DevList,
-) -> Result<Value, NoMemory>
+pub(crate) fn create_call(alloc: Global, name: &Name, devices: &DevList) -> Result<Value, NoMemory>
     ensures { IfOk result (λ value. view value ≡ create_call name.now devices.now) }
 {
     let mut members = Map::new(alloc);
     put(&mut members, alloc, "call", text(alloc, "CreatePool")?)?;
-    put(&mut members, alloc, "devices", path_texts(alloc, devices.items())?)?;
+    put(
+        &mut members,
+        alloc,
+        "devices",
+        path_texts(alloc, devices.items())?,
+    )?;
     put(&mut members, alloc, "name", text(alloc, name.as_str())?)?;
     Ok(Value::Object(members))
 }
 
 #[tactic(auto, unfolding(crate::specs::Calls::start_call))]
-fn start_call(
-    alloc: Global,
-    id: &str,
-    id_type: &str,
-) -> Result<Value, NoMemory>
+fn start_call(alloc: Global, id: &str, id_type: &str) -> Result<Value, NoMemory>
     ensures { IfOk result (λ value. view value ≡ start_call id.now id_type.now) }
 {
     let mut members = Map::new(alloc);
@@ -110,11 +96,7 @@ pub(crate) fn start_value(alloc: Global, id: &PoolId) -> Result<Value, NoMemory>
 }
 
 #[tactic(auto, unfolding(crate::specs::Calls::rename_call))]
-pub(crate) fn rename_call(
-    alloc: Global,
-    name: &Name,
-    new: &Name,
-) -> Result<Value, NoMemory>
+pub(crate) fn rename_call(alloc: Global, name: &Name, new: &Name) -> Result<Value, NoMemory>
     ensures { IfOk result (λ value. view value ≡ rename_call name.now new.now) }
 {
     let mut members = Map::new(alloc);
@@ -135,7 +117,12 @@ pub(crate) fn devices_call(
 {
     let mut members = Map::new(alloc);
     put(&mut members, alloc, "call", text(alloc, call)?)?;
-    put(&mut members, alloc, "devices", path_texts(alloc, devices.items())?)?;
+    put(
+        &mut members,
+        alloc,
+        "devices",
+        path_texts(alloc, devices.items())?,
+    )?;
     put(&mut members, alloc, "pool", text(alloc, pool.as_str())?)?;
     Ok(Value::Object(members))
 }

@@ -67,15 +67,37 @@ data_rows rows paths = map (λ path. record { path = path; tier = DataTier; sect
 
 abbrev pub new_pool : ℕ → Text → List DevRow → PoolState
 new_pool serial name rows = record {
-  serial = serial; name = name; mode = Up; devices = rows; filesystems = []; cells = [];
-  next_cell = 1; next_filesystem = 1; allocated = 32; filesystem_limit = 100; overprovisioning = true; commits = 1; cache = None
+  serial = serial;
+  name = name;
+  mode = Up;
+  devices = rows;
+  filesystems = [];
+  cells = [];
+  next_cell = 1;
+  next_filesystem = 1;
+  allocated = 32;
+  filesystem_limit = 100;
+  overprovisioning = true;
+  commits = 1;
+  cache = None;
 }
 
 -- the pool whose first commit failed: its serial, its name, the call in flight, and nothing else
 abbrev pub broken_pool : ℕ → Text → List Text → PoolState
 broken_pool serial name paths = record {
-  serial = serial; name = name; mode = Down (calls.CreatePool name paths); devices = []; filesystems = []; cells = [];
-  next_cell = 1; next_filesystem = 1; allocated = 0; filesystem_limit = 0; overprovisioning = false; commits = 0; cache = None
+  serial = serial;
+  name = name;
+  mode = Down (calls.CreatePool name paths);
+  devices = [];
+  filesystems = [];
+  cells = [];
+  next_cell = 1;
+  next_filesystem = 1;
+  allocated = 0;
+  filesystem_limit = 0;
+  overprovisioning = false;
+  commits = 0;
+  cache = None;
 }
 
 abbrev pub with_pool : EngineState → PoolState → EngineState

@@ -40,9 +40,17 @@ cache_info cache = record { blocks = cache.capacity; hits = cache.hits; misses =
 
 unfoldable pub pool_info : PoolState → PoolInfo
 pool_info pool = record {
-  serial = pool.serial; name = pool.name; mode = shown_mode pool.mode; devs = pool.devices;
-  filesystems = map fs_info pool.filesystems; fs_limit = pool.filesystem_limit; overprovisioning = pool.overprovisioning;
-  room = room pool; allocated = pool.allocated; used = used pool; cache = option_map cache_info pool.cache
+  serial = pool.serial;
+  name = pool.name;
+  mode = shown_mode pool.mode;
+  devs = pool.devices;
+  filesystems = map fs_info pool.filesystems;
+  fs_limit = pool.filesystem_limit;
+  overprovisioning = pool.overprovisioning;
+  room = room pool;
+  allocated = pool.allocated;
+  used = used pool;
+  cache = option_map cache_info pool.cache;
 }
 
 unfoldable pub stopped_row : PoolState → StoppedRow

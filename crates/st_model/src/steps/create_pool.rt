@@ -10,7 +10,9 @@ use crate::look;
 use crate::number_map::NumberMap;
 use crate::reply::{Given, Reply};
 use crate::state::{EngineState, PoolMode, PoolState};
-use st_units::{Cause, DevList, DevPath, DevRow, DevRows, ItemList, Name, NoMemory, PoolSerial, Tier};
+use st_units::{
+    Cause, DevList, DevPath, DevRow, DevRows, ItemList, Name, NoMemory, PoolSerial, Tier,
+};
 use std::alloc::Global;
 
 /// A device of fewer sectors can't be used.
@@ -34,7 +36,9 @@ fn sectors_of(rows: &[DevRow], path: &DevPath) -> u64
 fn first_small<'a>(paths: &'a [DevPath], rows: &[DevRow]) -> Option<&'a DevPath>
     ensures { option_copied result ≡ first_small paths.now rows.now }
 {
-    paths.iter().find(|path| sectors_of(rows, path) < LEAST_SECTORS)
+    paths
+        .iter()
+        .find(|path| sectors_of(rows, path) < LEAST_SECTORS)
 }
 
 fn data_paths(alloc: Global, rows: &[DevRow]) -> Result<DevList, NoMemory>
@@ -112,10 +116,7 @@ fn in_use(paths: &[DevPath], pools: &[PoolState]) -> Result<Option<Reply>, NoMem
         return Ok(None);
     };
     match look::pool_using(pools, path) {
-        Some(pool) => Ok(Some(Reply::refused(Cause::DeviceInUse(
-            path.copy()?,
-            pool.name.copy()?,
-        )))),
+        Some(pool) => Ok(Some(Reply::refused(Cause::DeviceInUse(path.copy()?, pool.name.copy()?)))),
         None => Ok(None),
     }
 }
@@ -193,7 +194,8 @@ impl EngineState {
         let paths = look::distinct(alloc, devices.items())?;
         let rows = data_rows(alloc, self.devices.items(), paths.items())?;
         let serial = PoolSerial::of(self.next);
-        self.pools.push(new_pool(alloc, serial, name.copy()?, rows))?;
+        self.pools
+            .push(new_pool(alloc, serial, name.copy()?, rows))?;
         self.next += 1;
         Ok(Reply::accepted(Given::Created(true, Some((serial, paths)))))
     }

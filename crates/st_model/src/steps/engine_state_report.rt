@@ -6,7 +6,9 @@ ghost use Rattle.st_model.specs.Sums.{AreSmall, blocks_of, room};
 ghost use Rattle.st_model.specs.steps.CreatePool.{is_data};
 ghost use Rattle.st_model.specs.steps.EngineStateReport.{report_plain, shown_mode, fs_info, cache_info, pool_info, stopped_row, place_among, place_among_stopped, infos_with, stopped_with, started_pools, halted_pools, free_paths, table_info};
 
-use crate::info::{CacheInfo, FsInfo, FsInfoList, Infos, PoolInfo, ShownMode, StoppedList, StoppedRow, TableInfo};
+use crate::info::{
+    CacheInfo, FsInfo, FsInfoList, Infos, PoolInfo, ShownMode, StoppedList, StoppedRow, TableInfo,
+};
 use crate::look;
 use crate::reply::{Given, Reply};
 use crate::state::{CacheState, EngineState, FsState, PoolMode, PoolState};

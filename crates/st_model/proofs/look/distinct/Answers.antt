@@ -9,5 +9,5 @@ loop-path-preserved c =
     let whole : List Text → List Text = λ rest. c.loop-path.list ++ unseen c.loop-path.list (distinct rest) in
     let more = at_drop_more whole c.args.paths.now c.loop-path.path-index c.path-item.result c.loop-path-test.true in
     let more' : whole (drop c.loop-path.path-index c.args.paths.now) ≡ whole (c.path-item.result ∷ drop (c.loop-path.path-index + 1) c.args.paths.now)
-        = subst (λ (p : Text). whole (drop c.loop-path.path-index c.args.paths.now) ≡ whole (p ∷ drop (c.loop-path.path-index + 1) c.args.paths.now)) (sym c.path-item.is) more in
+    = subst (λ (p : Text). whole (drop c.loop-path.path-index c.args.paths.now) ≡ whole (p ∷ drop (c.loop-path.path-index + 1) c.args.paths.now)) (sym c.path-item.is) more in
     rw c.in_ok-keep.ensures.ok (kept_step c.loop-path.list _ _ ∙ (sym more' ∙ c.loop-path.invariant))

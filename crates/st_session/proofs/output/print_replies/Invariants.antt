@@ -5,7 +5,7 @@ use Rattle.st_session.proofs.output.print_replies.Given as goal
 abbrev pub invariant-loop-answer : goal.invariant-loop-answer
 invariant-loop-answer g l =
     ((before : Option (List ℕ)) (rest whole : List ℕ) → Printing before (g.K.Sink.held l.fn.sink) l.fn.outlet (shown_from 1 l.log.items l.answers ++ rest) whole
-      → Printing before (g.K.Sink.held l.sink) l.outlet (shown_from l.number l.log.items (drop l.answer-index l.answers) ++ rest) whole)
+    → Printing before (g.K.Sink.held l.sink) l.outlet (shown_from l.number l.log.items (drop l.answer-index l.answers) ++ rest) whole)
     × AreShown l.number l.log.items (drop l.answer-index l.answers)
     × (l.oks + shown_oks l.number l.log.items (drop l.answer-index l.answers) ≡ shown_oks 1 l.log.items l.answers)
     × (l.oks ≤ l.answer-index)
