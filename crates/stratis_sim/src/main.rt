@@ -44,11 +44,7 @@ fn has_device(devs: &[(DevPath, u64)], path: &DevPath) -> bool
 }
 
 /// Puts one more device into the list, which is refused where its path is there.
-fn put_device(
-    alloc: Global,
-    devs: &mut Vec<(DevPath, u64)>,
-    text: &str,
-) -> Result<(), NoMemory>
+fn put_device(alloc: Global, devs: &mut Vec<(DevPath, u64)>, text: &str) -> Result<(), NoMemory>
     requires { AreOurs devs.old.items }
     ensures ours { AreOurs devs.new.items }
     ensures one { OnOk result (length devs.new.items ≡ length devs.old.items + 1) }
@@ -125,7 +121,15 @@ fn main(rt: HostRuntime) -> io::Result<ExitCode> {
     };
     let mut source = Reading::new(rt.reader());
     let mut sink = Writing::new(io::writer(&rt));
-    let outcome = run_words(&rt, rt.alloc(), &words, &mut source, &mut sink, rack, &NoGate);
+    let outcome = run_words(
+        &rt,
+        rt.alloc(),
+        &words,
+        &mut source,
+        &mut sink,
+        rack,
+        &NoGate,
+    );
     tell(&rt, outcome.status)?;
     Ok(ExitCode::from(code_of(outcome.status)))
 }
