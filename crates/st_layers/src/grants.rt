@@ -69,18 +69,21 @@ fn a_writer_of_all_waits_for_both_and_is_not_passed(rt: HostRuntime) {
         panic!(rt; "out of memory");
     };
     for (ticket, want) in [(0, Ok(())), (1, Ok(())), (2, Err(0)), (3, Err(0))] {
-        assert_eq!(rt; answer(&grants, ticket), Some(want), "ticket {ticket} at first");
+        assert_eq!(rt;
+            answer(&grants, ticket),
+            Some(want),
+            "ticket {ticket} at first"
+        );
     }
     assert!(rt; grant(&mut grants, 0));
     assert!(rt; grant(&mut grants, 1));
     assert!(rt; release(&mut grants, 0));
-    for (ticket, want) in [
-        (0, None),
-        (1, None),
-        (2, Some(Err(1))),
-        (3, Some(Err(2))),
-    ] {
-        assert_eq!(rt; answer(&grants, ticket), want, "ticket {ticket} after the release");
+    for (ticket, want) in [(0, None), (1, None), (2, Some(Err(1))), (3, Some(Err(2)))] {
+        assert_eq!(rt;
+            answer(&grants, ticket),
+            want,
+            "ticket {ticket} after the release"
+        );
     }
     assert_eq!(rt; grants.unreleased(), Some(1));
 }

@@ -2,8 +2,12 @@
 #![tactic(auto)]
 
 #[cfg(test)]
+mod cache;
+#[cfg(test)]
 mod grants;
 #[cfg(test)]
 mod lines;
+#[cfg(test)]
+mod slots;
 #[cfg(test)]
 mod turn;

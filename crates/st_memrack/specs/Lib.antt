@@ -1,3 +1,2 @@
 pub mod Slab
-
 pub mod Blank

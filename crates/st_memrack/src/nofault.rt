@@ -10,7 +10,9 @@ ghost use Rattle.st_memrack.specs.Blank.{AreDistinct, IsBlank, Filled, IsSettled
 
 use crate::Slab;
 use st_rack::{DevFault, Rack};
-use st_slabs::{copied, find, first_of, insert, remember, remember_joined, take_in, take_out, Past};
+use st_slabs::{
+    Past, copied, find, first_of, insert, remember, remember_joined, take_in, take_out,
+};
 use st_units::{DevList, DevPath, NoMemory};
 use std::alloc::Global;
 use std::snapshot::Snapshot;

@@ -1,7 +1,6 @@
 ghost use Rattle.std.specs.Prelude.{◌≡◌, ◌+◌, ◌*◌, ◌<◌, ◌≤◌, ◌++◌, ◌-◌, ◌^◌, min, ℕ, length, take, drop, slice_index, IfOk};
 
-use st_slabs::{Device, Told};
-use st_slabs::{tell_settled, tell_write};
+use st_slabs::{Device, Told, tell_settled, tell_write};
 use st_units::{DevPath, NoMemory};
 use std::alloc::Global;
 use std::snapshot::Snapshot;

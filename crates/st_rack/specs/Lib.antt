@@ -5,3 +5,4 @@ pub mod Moments
 pub mod Parts
 pub mod Steps
 pub mod Readers
+pub mod Tagged

@@ -1,11 +1,11 @@
 -- A change of a shelf, as its clock tells it; R is a rack with a past and a list of devices.
-use Rattle.std.proofs.Common.{◌≡◌, ◌≢◌, inl, inr, ℕ, zero, suc, ◌+◌, ◌<◌, ◌≤◌, Bool, true, false, cond, nat_le, not, is_some, Option, Some, None, IsNone, List, [], ◌∷◌, length, get_or, slice_set, filter, refl, sym, ◌∙◌, ap, subst, arith}
+use Rattle.std.proofs.Common.{◌≡◌, inl, inr, ℕ, ◌+◌, ◌<◌, ◌≤◌, Bool, true, false, cond, nat_le, not, Option, Some, None, List, [], ◌∷◌, length, get_or, slice_set, refl, sym, ◌∙◌, ap, subst, arith}
 use Rattle.std.specs.Str.{bytes_eq}
 use Rattle.std.specs.List.{IsDistinct}
 use Rattle.std.proofs.lemmas.Bool.{le-leb, cases_lt}
 use Rattle.std.proofs.lemmas.Bool.Decides.{nat_tests}
 use Rattle.st_rack.specs.Device.{Path, DevState, State}
-use Rattle.st_rack.specs.Calls.{Devices, Has, Rises, sectors_of, names}
+use Rattle.st_rack.specs.Calls.{Devices, Has, Rises, names}
 use Rattle.st_rack.specs.Moments.{Goes, OnDevice}
 use Rattle.st_rack.specs.Parts.{Splits, Joins}
 use Rattle.st_slabs.specs.Shelf.{look, rows_of, state_in, is_in, no_device, IsFirst, join_in}
@@ -130,7 +130,7 @@ module _ {R D : Type 0} (past_of : R → Past D) (list_of : R → List D) (path 
 
   module _ (old other new : R) (longer : clock new ≡ clock old + 1)
       (remembers : (now : State) (k : ℕ) (p : Path) → was path state (past_of new) now k p
-          ≡ cond (nat_le k (clock old)) (cond (is_in path (list_of other) p) (now_in other p) (states old k p)) (now p))
+      ≡ cond (nat_le k (clock old)) (cond (is_in path (list_of other) p) (now_in other p) (states old k p)) (now p))
       (joined : list_of new ≡ join_in path (list_of old) (list_of other)) where
     pub look_join : {A : Type 0} (f : D → A) (none : A) (p : Path) → look path f none (list_of new) p ≡ cond (is_in path (list_of other) p) (look path f none (list_of other) p) (look path f none (list_of old) p)
     look_join f none p = ap (λ (l : List D). look path f none l p) joined ∙ look-join_in path f none (list_of old) (list_of other) p

@@ -1,5 +1,5 @@
 -- Devices come to a shelf.
-use Rattle.std.proofs.Common.{◌≡◌, ◌≢◌, inl, inr, ℕ, zero, suc, ◌+◌, ◌<◌, ◌≤◌, Bool, true, false, cond, List, [], ◌∷◌, ◌++◌, length, get_or, take, drop, insert, refl, sym, ◌∙◌, ap, subst, arith}
+use Rattle.std.proofs.Common.{◌≡◌, inl, inr, ℕ, zero, suc, ◌+◌, ◌<◌, ◌≤◌, Bool, true, false, cond, List, [], ◌∷◌, ◌++◌, length, get_or, insert, refl, sym, ◌∙◌, ap, subst, arith}
 use Rattle.std.specs.Str.{bytes_eq}
 use Rattle.std.proofs.lemmas.Bool.{cases_Bool}
 use Rattle.std.proofs.lemmas.Slice.Eq.{bytes_eq-Decides}
@@ -92,11 +92,14 @@ module _ {D : Type 0} (path : D → Path) where
         apart_if : (b c : Bool) → cond b true c ≡ false → b ≡ false
         apart_if true c e = absurd cc
         apart_if false c e = refl
+
         rest_if : (b c : Bool) → cond b true c ≡ false → c ≡ false
         rest_if true c e = absurd cc
         rest_if false c e = e
+
         apart : bytes_eq (path x) (path d) ≡ false
         apart = apart_if (bytes_eq (path x) (path d)) (is_in path l (path d)) out
+
         rest_out : is_in path l (path d) ≡ false
         rest_out = rest_if (bytes_eq (path x) (path d)) (is_in path l (path d)) out
 

@@ -1,12 +1,11 @@
 -- Some devices leave a shelf.
-use Rattle.std.proofs.Common.{◌≡◌, ◌≢◌, inl, inr, ℕ, zero, suc, ◌+◌, ◌<◌, ◌≤◌, Bool, true, false, cond, not, ◌||◌, Option, Some, None, is_some, List, [], ◌∷◌, ◌++◌, length, get_or, take, drop, filter, refl, sym, ◌∙◌, ap, subst, arith}
+use Rattle.std.proofs.Common.{◌≡◌, inl, inr, ℕ, zero, suc, ◌+◌, ◌<◌, Bool, true, false, cond, not, ◌||◌, List, [], ◌∷◌, ◌++◌, length, get_or, take, drop, filter, refl, sym, ◌∙◌, ap, subst, arith}
 use Rattle.std.specs.Str.{bytes_eq}
 use Rattle.std.specs.List.{IsDistinct, AllByRecursion}
 use Rattle.std.proofs.lemmas.Bool.{cases_Bool}
-use Rattle.std.proofs.lemmas.List.{append-nil, take_all, drop_all}
 use Rattle.std.proofs.lemmas.Slice.Eq.{bytes_eq-Decides}
 use Rattle.st_rack.specs.Device.{Path}
-use Rattle.st_rack.specs.Calls.{Rises, Has, sectors_of, names}
+use Rattle.st_rack.specs.Calls.{Rises, names}
 use Rattle.st_slabs.specs.Shelf.{look, rows_of, is_in}
 use Rattle.st_slabs.proofs.Order.{Below, paths, rises_first, rises_rest, rises_more, rises_none, less_apart}
 use Rattle.st_slabs.proofs.Look.{bytes_eq-sym, equal}
@@ -124,7 +123,7 @@ module _ {D : Type 0} (path : D → Path) where
       where
         one : (b c : Bool) → (b ≡ true → c ≡ false) → length (filter (λ d. q (path d) || r (path d)) l) ≡ length (filter (λ d. q (path d)) l) + length (filter (λ d. r (path d)) l)
             → length (cond (b || c) (x ∷ filter (λ d. q (path d) || r (path d)) l) (filter (λ d. q (path d) || r (path d)) l))
-              ≡ length (cond b (x ∷ filter (λ d. q (path d)) l) (filter (λ d. q (path d)) l)) + length (cond c (x ∷ filter (λ d. r (path d)) l) (filter (λ d. r (path d)) l))
+            ≡ length (cond b (x ∷ filter (λ d. q (path d)) l) (filter (λ d. q (path d)) l)) + length (cond c (x ∷ filter (λ d. r (path d)) l) (filter (λ d. r (path d)) l))
         one true true only rest = absurd (let e = only refl in cc)
         one true false only rest = omega (arith, rest)
         one false true only rest = omega (arith, rest)

@@ -1,5 +1,3 @@
 pub mod Shelf
-
 pub mod Past
-
 pub mod Told

@@ -1,5 +1,5 @@
 -- The states that devices have had.
-use Rattle.std.specs.Prelude.{◌≡◌, ℕ, ◌+◌, Bool, nat_le, List, if◌then◌else◌}
+use Rattle.std.specs.Prelude.{ℕ, ◌+◌, nat_le, if◌then◌else◌}
 use Rattle.st_rack.specs.Device.{Path, DevState, State}
 use Rattle.st_slabs.specs.Shelf.{state_in, is_in}
 use Rattle.st_slabs.specs.declared.past.Past.{Past, Start, Then', Joined', Copied'}

@@ -1,5 +1,5 @@
 -- What a device was told, as a rack keeps it: C is what holds a device's content.
-use Rattle.std.specs.Prelude.{◌≡◌, ℕ, ◌*◌, List, [], ◌∷◌}
+use Rattle.std.specs.Prelude.{ℕ, ◌*◌, List, [], ◌∷◌}
 use Rattle.st_rack.specs.Story.{Content, Story, Began, Wrote, Settled}
 use Rattle.st_slabs.specs.declared.told.Told.{Told, Blank, Wrote', Settled'}
 use Rattle.st_slabs.specs.declared.told.Text.{Text, End, Byte'}

@@ -7,6 +7,6 @@ mod shelf;
 mod told;
 
 pub use device::Device;
-pub use past::{copied, remember, remember_joined, Past};
+pub use past::{Past, copied, remember, remember_joined};
 pub use shelf::{find, first_of, insert, take_in, take_out};
-pub use told::{tell_settled, tell_write, Text, Told};
+pub use told::{Text, Told, tell_settled, tell_write};

@@ -65,7 +65,6 @@ pub fn first_of<D: Device>(devices: &[D], dev: &DevPath) -> usize
     place
 }
 
-
 // Where a device belongs.
 fn place_for<D: Device>(devices: &[D], dev: &DevPath) -> usize
     ensures within { result ≤ length devices.now }
@@ -107,7 +106,9 @@ fn is_named<D: Device>(device: &D, list: &DevList) -> bool
     ensures { result ≡ names list.now (D.path_of device.now) }
 {
     let path = device.path();
-    list.items().iter().any(|named| named.bytes() == path.bytes())
+    list.items()
+        .iter()
+        .any(|named| named.bytes() == path.bytes())
 }
 
 /// Moves the devices of the list out, into a `Vec` that has room for all.

@@ -1,4 +1,4 @@
-use Rattle.std.proofs.Common.{◌≡◌, ◌+◌, ◌-◌, ◌/◌, ◌<◌, ◌≤◌, inl, inr, ℕ, length, get_or, Bool, true, false, ap, sym, ◌∙◌, arith}
+use Rattle.std.proofs.Common.{◌+◌, ◌-◌, ◌/◌, ◌<◌, inl, inr, length, get_or, ap, sym, ◌∙◌, arith}
 use Rattle.std.proofs.lemmas.Bool.{cases_Bool}
 use Rattle.st_slabs.specs.Shelf.{comes_before}
 use Rattle.st_slabs.proofs.Order.{partitioned}
@@ -33,10 +33,10 @@ loop-low-preserved g c =
       after = λ k d le less. elim (cases_Bool (comes_before (path (get_or all k d)) c.args.dev.now)) [
         | inr not ↦ not
         | inl is ↦ absurd (
-          let here = partitioned path g.D.Device.size all c.args.dev.now c.requires middle k d le less is in
-          let there =
-              ap (λ (e : _). comes_before (path e) c.args.dev.now) (same_at all middle d c.index-devices-middle.result lt ∙ sym c.index-devices-middle.is)
-              ∙ ap (λ (p : _). comes_before p c.args.dev.now) (sym c.path.ensures) ∙ sym c.is_before.ensures ∙ c.if-is_before.false in
-          cc)
+            let here = partitioned path g.D.Device.size all c.args.dev.now c.requires middle k d le less is in
+            let there =
+            ap (λ (e : _). comes_before (path e) c.args.dev.now) (same_at all middle d c.index-devices-middle.result lt ∙ sym c.index-devices-middle.is)
+            ∙ ap (λ (p : _). comes_before p c.args.dev.now) (sym c.path.ensures) ∙ sym c.is_before.ensures ∙ c.if-is_before.false in
+            cc)
       ];
     }

@@ -1,4 +1,4 @@
-use Rattle.std.proofs.Common.{◌≡◌, ◌++◌, ◌∷◌, [], List, Option, ap, sym, ◌∙◌, arith}
+use Rattle.std.proofs.Common.{◌++◌, List, Option, ap, sym, ◌∙◌, arith}
 use Rattle.std.specs.Option.{option_to_list}
 use Rattle.st_slabs.specs.Shelf.{join_in}
 use Rattle.st_slabs.proofs.Come.{join-last}

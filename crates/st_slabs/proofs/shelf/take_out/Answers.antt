@@ -1,4 +1,4 @@
-use Rattle.std.proofs.Common.{◌≡◌, ◌+◌, ◌<◌, ◌≤◌, suc, Bool, true, false, List, [], ◌∷◌, ◌++◌, length, get_or, take, drop, sym, ◌∙◌, ap, subst, arith, add-one, append_assoc}
+use Rattle.std.proofs.Common.{◌≡◌, ◌<◌, suc, true, false, List, [], ◌∷◌, ◌++◌, length, get_or, take, drop, sym, ◌∙◌, ap, arith, add-one, append_assoc}
 use Rattle.st_rack.specs.Calls.{names}
 use Rattle.st_slabs.proofs.Leave.{keep, out, stay_more, stay_out, gone_keep, gone_out, same_at}
 use Rattle.st_slabs.proofs.shelf.take_out.Goals as goal

@@ -1,4 +1,4 @@
-use Rattle.std.proofs.Common.{◌≡◌, ◌+◌, ◌-◌, ◌≤◌, ◌++◌, length, take, drop, vec_len, vec_capacity}
+use Rattle.std.proofs.Common.{◌≡◌, ◌+◌, ◌-◌, ◌≤◌, ◌++◌, take, drop, vec_len, vec_capacity}
 use Rattle.st_rack.specs.Calls.{names}
 use Rattle.st_slabs.proofs.Leave.{keep, out}
 use Rattle.st_slabs.proofs.shelf.take_out.Given as goal

@@ -19,8 +19,10 @@ pub invariant_of-self : goal.invariant_of-self
 invariant_of-self c =
     let slabs = c.args.self.now.slabs.items in
     let others = c.args.other.slabs.items in
-    record { rises = subst (λ (l : List Slab). Rises (rows_of slab_path slab_size l)) (sym c.take_in.ensures.items)
-        (rises-join slab_path slab_size slabs others c.args.self.now.rises c.args.other.rises (apart_in slabs others c.requires.apart)) }
+    record {
+      rises = subst (λ (l : List Slab). Rises (rows_of slab_path slab_size l)) (sym c.take_in.ensures.items)
+          (rises-join slab_path slab_size slabs others c.args.self.now.rises c.args.other.rises (apart_in slabs others c.requires.apart));
+    }
 
 pub returns-clause-joined : goal.returns-clause-joined
 returns-clause-joined c =

@@ -68,7 +68,7 @@ returns-clause-touched c =
     let v = c.put.new.self in
     let path = c.put.ensures.path ∙ ap slab_path c.index_mut.ensures.value ∙ first_path slab_path slabs dev i d first in
     let change = one_device slab_path slab_state slabs dev i v d (Touched (512 * c.args.sector) c.args.bytes.now) first path
-        (subst (λ (s : Slab). Touched (512 * c.args.sector) c.args.bytes.now (slab_state s) (slab_state v)) c.index_mut.ensures.value c.put.ensures.touched) in
+    (subst (λ (s : Slab). Touched (512 * c.args.sector) c.args.bytes.now (slab_state s) (slab_state v)) c.index_mut.ensures.value c.put.ensures.touched) in
     both_now c.args.self.now.past.value c.remember.new.past.value slabs (slice_set slabs i v) (OnDevice dev (Touched (512 * c.args.sector) c.args.bytes.now)) change
 
 pub returns-clause-time : goal.returns-clause-time
@@ -81,7 +81,7 @@ returns-clause-time c =
     let v = c.put.new.self in
     let path = c.put.ensures.path ∙ ap slab_path c.index_mut.ensures.value ∙ first_path slab_path slabs dev i d first in
     let change = one_device slab_path slab_state slabs dev i v d (Touched (512 * c.args.sector) c.args.bytes.now) first path
-        (subst (λ (s : Slab). Touched (512 * c.args.sector) c.args.bytes.now (slab_state s) (slab_state v)) c.index_mut.ensures.value c.put.ensures.touched) in
+    (subst (λ (s : Slab). Touched (512 * c.args.sector) c.args.bytes.now (slab_state s) (slab_state v)) c.index_mut.ensures.value c.put.ensures.touched) in
     goes past_of list_of slab_path slab_size slab_state c.args.self.now _ c.remember.ensures.depth c.remember.ensures.was (OnDevice dev (Touched (512 * c.args.sector) c.args.bytes.now)) change
 
 pub returns-clause-reads : goal.returns-clause-reads

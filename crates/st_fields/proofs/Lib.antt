@@ -1,0 +1,3 @@
+pub mod Spellings
+pub mod Slots
+pub mod Changes

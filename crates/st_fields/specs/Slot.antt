@@ -1,0 +1,64 @@
+-- A slot: a head of 64 bytes, whose seal covers its other fields and the body, and then the body.
+use Rattle.std.specs.Prelude.{◌≡◌, ◌≢◌, ℕ, ◌+◌, ◌-◌, ◌*◌, ◌/◌, ◌%◌, ◌^◌, ◌≤◌, Bool, ◌&&◌, nat_le, nat_eq, List, ◌++◌, length, take, drop, replicate, Option, Some, None, if◌then◌else◌}
+use Rattle.std.specs.Str.{bytes_eq}
+use Rattle.st_fields.specs.Fields.{number_at, spelling, digest}
+
+-- the head's first 32 bytes, before its seal: magic, generation, the body's length, and zero bytes
+unfoldable pub slot_fields : List ℕ → ℕ → ℕ → List ℕ
+slot_fields magic generation count = magic ++ spelling 8 generation ++ spelling 8 count ++ replicate 8 0
+
+-- what seals a body of this generation
+abbrev pub slot_seal : List ℕ → ℕ → List ℕ → List ℕ
+slot_seal magic generation body = digest (slot_fields magic generation (length body) ++ body)
+
+-- the one spelling of a generation and a body
+abbrev pub slot_text : List ℕ → ℕ → List ℕ → List ℕ
+slot_text magic generation body = slot_fields magic generation (length body) ++ slot_seal magic generation body ++ body
+
+-- so many bytes, filled up to whole sectors
+abbrev pub padded : ℕ → ℕ
+padded n = 512 * ((n + 511) / 512)
+
+-- what a write puts into the slot: the text, and zero bytes up to whole sectors
+abbrev pub slot_bytes : List ℕ → ℕ → List ℕ → List ℕ
+slot_bytes magic generation body = slot_text magic generation body ++ replicate (padded (64 + length body) - (64 + length body)) 0
+
+-- The bytes of the slot in this place, 0 or 1, begin with the spelling of this generation and body.
+pub record IsSlot (magic : List ℕ) (place : ℕ) (bytes : List ℕ) (generation : ℕ) (body : List ℕ) : Type 0 where
+  pub from : 1 ≤ generation
+  pub until : generation ≤ 2 ^ 48
+  pub in_place : generation % 2 ≡ place
+  pub rest : List ℕ
+  pub spelled : bytes ≡ slot_text magic generation body ++ rest
+
+-- a generation and its body, if there is a valid slot
+abbrev pub Found : Type 0
+Found = Option (ℕ × List ℕ)
+
+abbrev pub generation_in : List ℕ → ℕ
+generation_in bytes = number_at 8 8 bytes
+
+abbrev pub length_in : List ℕ → ℕ
+length_in bytes = number_at 8 16 bytes
+
+abbrev pub body_in : List ℕ → List ℕ
+body_in bytes = take (length_in bytes) (drop 64 bytes)
+
+-- it is a generation, and its slot is in this place
+abbrev pub is_generation : ℕ → ℕ → Bool
+is_generation place generation = nat_le 1 generation && (nat_le generation (2 ^ 48) && nat_eq (generation % 2) place)
+
+-- the same as a function: what the bytes say, where they begin with the spelling of it
+unfoldable pub slot_of : List ℕ → ℕ → List ℕ → Found
+slot_of magic place bytes =
+    if (is_generation place (generation_in bytes) && bytes_eq (take (64 + length_in bytes) bytes) (slot_text magic (generation_in bytes) (body_in bytes)))
+    then Some (generation_in bytes, body_in bytes) else None
+
+-- what the seal of a generation and a body covers
+abbrev pub message_of : List ℕ → ℕ × List ℕ → List ℕ
+message_of magic x = slot_fields magic x.0 (length x.1) ++ x.1
+
+-- two messages of one digest
+pub record Collides (a b : List ℕ) : Type 0 where
+  pub differ : a ≢ b
+  pub same : digest a ≡ digest b

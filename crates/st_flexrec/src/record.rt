@@ -1,0 +1,97 @@
+ghost use Rattle.std.specs.Prelude.{◌≡◌, ◌<◌, ◌^◌, ℕ, length, IfOk};
+ghost use Rattle.st_recfields.specs.Rows.{Reads, Spells};
+ghost use Rattle.st_flexrec.specs.Head.{HeadFits};
+ghost use Rattle.st_flexrec.specs.Record.{RecFits, record_text};
+ghost use Rattle.st_flexrec.specs.Reading.{Follows};
+
+use crate::head::{FlexHead, HEAD_WIDTH};
+use crate::rows::{CELL_WIDTH, CellRows, FsRows, MAP_WIDTH, MapRows};
+use st_recfields::{FS_WIDTH, RecFault, Row, put_rows, read_row, read_rows};
+use st_units::{Bytes, NoMemory};
+use std::alloc::Global;
+
+/// What the flex record of a pool says.
+#[derive(Drop)]
+pub struct FlexRec {
+    /// The pool's serial.
+    pub serial: u64,
+    /// The serial that the next filesystem gets.
+    pub next_fs: u64,
+    /// The number that the next cell gets.
+    pub next_cell: u64,
+    pub filesystems: FsRows,
+    pub mappings: MapRows,
+    pub cells: CellRows,
+}
+
+/// The spelling of the value. Its rows have to be as many as the head can count.
+pub fn write(alloc: Global, rec: &FlexRec) -> Result<Bytes, NoMemory>
+    requires filesystems { length rec.now.filesystems < 2 ^ 16 }
+    requires mappings { length rec.now.mappings < 2 ^ 32 }
+    requires cells { length rec.now.cells < 2 ^ 32 }
+    ensures { IfOk result (λ bytes. bytes ≡ record_text rec.now) }
+{
+    let head = FlexHead {
+        serial: rec.serial,
+        next_fs: rec.next_fs,
+        next_cell: rec.next_cell,
+        filesystems: rec.filesystems.len() as u16,
+        mappings: rec.mappings.len() as u32,
+        cells: rec.cells.len() as u32,
+    };
+    let mut out = Vec::new(alloc);
+    head.put(&mut out)?;
+    put_rows(&mut out, rec.filesystems.items())?;
+    put_rows(&mut out, rec.mappings.items())?;
+    put_rows(&mut out, rec.cells.items())?;
+    Ok(Bytes::of(out))
+}
+
+/// The value whose spelling the bytes are, whether or not it keeps the conditions.
+pub fn read(alloc: Global, bytes: &[u8]) -> Result<FlexRec, RecFault>
+    ensures { Reads (Spells RecFits record_text bytes.now) result }
+{
+    if bytes.len() < HEAD_WIDTH {
+        return Err(RecFault::NotARecord);
+    }
+    let (front, rest) = bytes.split_at(HEAD_WIDTH);
+    match read_row(alloc, front) {
+        Err(fault) => Err(fault),
+        Ok(head) => read_rest(alloc, head, rest),
+    }
+}
+
+/// The value with this head, and with the rows whose spellings the bytes are. The counts of the
+/// head are tested against the bytes first.
+fn read_rest(alloc: Global, head: FlexHead, rest: &[u8]) -> Result<FlexRec, RecFault>
+    requires { HeadFits head }
+    ensures { Reads (Follows head rest.now) result }
+{
+    let fs_len = usize::from(head.filesystems) * FS_WIDTH;
+    let map_len = head.mappings as usize * MAP_WIDTH;
+    let cell_len = head.cells as usize * CELL_WIDTH;
+    if rest.len() != fs_len + map_len + cell_len {
+        return Err(RecFault::NotARecord);
+    }
+    let (fs_rows, others) = rest.split_at(fs_len);
+    let (map_rows, cell_rows) = others.split_at(map_len);
+    let filesystems = match read_rows(alloc, fs_rows) {
+        Err(fault) => return Err(fault),
+        Ok(filesystems) => filesystems,
+    };
+    let mappings = match read_rows(alloc, map_rows) {
+        Err(fault) => return Err(fault),
+        Ok(mappings) => mappings,
+    };
+    match read_rows(alloc, cell_rows) {
+        Err(fault) => Err(fault),
+        Ok(cells) => Ok(FlexRec {
+            serial: head.serial,
+            next_fs: head.next_fs,
+            next_cell: head.next_cell,
+            filesystems,
+            mappings,
+            cells,
+        }),
+    }
+}

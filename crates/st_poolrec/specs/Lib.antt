@@ -1,0 +1,5 @@
+pub mod Head
+pub mod HeadLaws
+pub mod Conditions
+pub mod Record
+pub mod Reading

@@ -1,0 +1,45 @@
+//! Laws that hold of every rack: each function does nothing, and its contract is a law over the words of the trait.
+ghost use Rattle.std.specs.Prelude.{ℕ, List};
+ghost use Rattle.st_rack.specs.Device.{Image, State, FairlyLeaves, MayLeave, Settling};
+ghost use Rattle.st_rack.specs.Moments.{AllCut, Goes, LeftSince, OnDevice};
+ghost use Rattle.st_rack.specs.Steps.{Changed, LeavesOutside};
+ghost use Rattle.st_rack.specs.Tagged.{tagged};
+
+use crate::Rack;
+use st_units::DevPath;
+
+/// Two runs that change nothing outside `n` bytes of a device make one.
+pub fn run_of_two<R: Rack>(old: &R, middle: &R, new: &R, dev: &DevPath)
+    ensures { (at n : ℕ) → Goes R.moment R.state_at (OnDevice dev.now (Changed at n)) old.now middle.now → Goes R.moment R.state_at (OnDevice dev.now (Changed at n)) middle.now new.now
+        → Goes R.moment R.state_at (OnDevice dev.now (Changed at n)) old.now new.now }
+{
+    let _ = old;
+    let _ = middle;
+    let _ = new;
+    let _ = dev;
+}
+
+/// Outside the bytes that a run changes, a crash at any moment of it leaves what a crash at its start could leave.
+pub fn outside_a_run<R: Rack>(old: &R, new: &R, dev: &DevPath)
+    ensures { (at n : ℕ) → Goes R.moment R.state_at (OnDevice dev.now (Changed at n)) old.now new.now
+        → LeavesOutside dev.now at n (R.state_at old.now (R.moment old.now)) (LeftSince R.moment R.state_at new.now (R.moment old.now)) }
+{
+    let _ = old;
+    let _ = new;
+    let _ = dev;
+}
+
+/// While a device is synced, with success or without, no image is fairly left that couldn't be left before: shown on the readers
+/// of tagged blocks, and it holds of every family of readers.
+pub fn left_after_sync(dev: &DevPath)
+    ensures { (tag : List ℕ) (old new : State) (c : Image) → OnDevice dev.now Settling old new → FairlyLeaves (tagged tag) new c → FairlyLeaves (tagged tag) old c }
+{
+    let _ = dev;
+}
+
+/// After a power cut no image is fairly left that couldn't be left before.
+pub fn left_after_cycle<R: Rack>(rack: &R)
+    ensures { (tag : List ℕ) (old new : State) (c : Image) → AllCut (R.devs rack.now) old new → FairlyLeaves (tagged tag) new c → FairlyLeaves (tagged tag) old c }
+{
+    let _ = rack;
+}
