@@ -100,7 +100,9 @@ fn each_row_prints_its_bytes(rt: HostRuntime) -> Result<()> {
         let words = words(alloc, row.trace)?;
         let mut source = source(alloc, row.input, Vec::new(alloc))?;
         let mut sink = MemorySink::new(alloc, 1000, Vec::new(alloc));
-        let rack = st_sims::rack(alloc, row.devices.min(12))?;
+        let Ok(rack) = st_sims::rack(alloc, row.devices.min(12)) else {
+            panic!(rt; "out of memory");
+        };
         let outcome = run_words(&rt, alloc, &words, &mut source, &mut sink, rack, &NoGate);
         assert_eq!(rt; outcome.status, Status::Done, "{}", row.name);
         assert_eq!(rt; sink.bytes(), row.output.as_bytes(), "{}", row.name);
@@ -114,7 +116,9 @@ fn a_wrong_word_is_usage(rt: HostRuntime) -> Result<()> {
     let words = vec![in alloc; String::from_str(alloc, "walk")?]?;
     let mut source = source(alloc, "", Vec::new(alloc))?;
     let mut sink = MemorySink::new(alloc, 1000, Vec::new(alloc));
-    let rack = st_sims::rack(alloc, 1)?;
+    let Ok(rack) = st_sims::rack(alloc, 1) else {
+        panic!(rt; "out of memory");
+    };
     let outcome = run_words(&rt, alloc, &words, &mut source, &mut sink, rack, &NoGate);
     assert_eq!(rt; outcome.status, Status::Usage);
     assert_eq!(rt; sink.bytes(), b"".as_slice());
@@ -129,7 +133,9 @@ fn a_source_that_fails_is_a_read_fault(rt: HostRuntime) -> Result<()> {
         "{\"call\":\"EngineStateReport\"}\n{\"call\":\"EngineStateReport\"}\n{\"call\":\"EngineStateReport\"}\n";
     let mut source = source(alloc, line, vec![in alloc; 2]?)?;
     let mut sink = MemorySink::new(alloc, 1000, Vec::new(alloc));
-    let rack = st_sims::rack(alloc, 1)?;
+    let Ok(rack) = st_sims::rack(alloc, 1) else {
+        panic!(rt; "out of memory");
+    };
     let outcome = run_words(&rt, alloc, &words, &mut source, &mut sink, rack, &NoGate);
     assert_eq!(rt; outcome.status, Status::ReadFault);
     assert_eq!(rt; sink.bytes(), b"".as_slice());
@@ -142,7 +148,9 @@ fn a_sink_that_fails_has_a_prefix(rt: HostRuntime) -> Result<()> {
     let words = words(alloc, false)?;
     let mut source = source(alloc, "", Vec::new(alloc))?;
     let mut sink = MemorySink::new(alloc, 8, vec![in alloc; 3]?);
-    let rack = st_sims::rack(alloc, 1)?;
+    let Ok(rack) = st_sims::rack(alloc, 1) else {
+        panic!(rt; "out of memory");
+    };
     let outcome = run_words(&rt, alloc, &words, &mut source, &mut sink, rack, &NoGate);
     assert_eq!(rt; outcome.status, Status::WriteFault);
     assert_eq!(rt; sink.bytes(), b"summary lines 0 ".as_slice());
