@@ -1,4 +1,4 @@
-ghost use Rattle.std.specs.Prelude.{◌≡◌, ◌+◌, ◌≤◌, ◌<◌, [], ◌∷◌, ◌++◌, OnOk, OnErr, IfErr, IsOk, length, slice_get, Some};
+ghost use Rattle.std.specs.Prelude.{◌≡◌, ◌+◌, ◌≤◌, ◌<◌, [], ◌∷◌, ◌++◌, OnOk, OnErr, IfOk, IfErr, IsOk, length, slice_get, remove, Some};
 
 use crate::memory::NoMemory;
 use std::alloc::Global;
@@ -29,6 +29,16 @@ impl<T> RoomyList<T> {
         RoomyList {
             items: Vec::new(alloc),
         }
+    }
+
+    /// The empty list with room for `room` items.
+    pub fn with_room(alloc: Global, room: usize) -> Result<Self, NoMemory>
+        ensures items { IfOk result (λ l. l.items ≡ []) }
+        ensures room { IfOk result (λ l. room ≤ l.room) }
+    {
+        Ok(RoomyList {
+            items: Vec::with_capacity(alloc, room)?,
+        })
     }
 
     /// Makes room for `n` items more: the next `n` pushes take no memory and aren't refused.
@@ -81,10 +91,37 @@ impl<T> RoomyList<T> {
         &self.items[i]
     }
 
+    /// Takes the item at place `i` out, which leaves room for one more.
+    pub fn take_at(&mut self, i: usize) -> T
+        requires { i < length self.old.items }
+        ensures taken { slice_get self.old.items i ≡ Some result }
+        ensures items { self.new.items ≡ remove self.old.items i }
+        ensures room { self.new.room ≡ self.old.room + 1 }
+    {
+        self.items.remove(i)
+    }
+
+    /// Lets an empty list go, whatever its items would be.
+    pub fn finish(self)
+        requires { self.items ≡ [] }
+    {
+        self.items.destroy_empty()
+    }
+
     /// All items, in order.
     pub fn items(&self) -> &[T]
         ensures { result.now ≡ self.now.items }
     {
         self.items.as_slice()
+    }
+}
+
+impl<T: Drop> RoomyList<T> {
+    /// Lets all items go, which leaves room for as many.
+    pub fn clear(&mut self)
+        ensures items { self.new.items ≡ [] }
+        ensures room { self.new.room ≡ self.old.room + length self.old.items }
+    {
+        self.items.clear();
     }
 }
