@@ -1,7 +1,7 @@
 pub mod Answer
-pub mod History
 pub mod Laws
 pub mod Look
+pub mod Parts
 pub mod Step
 pub mod Sums
 pub mod Valid

@@ -1,7 +1,6 @@
 use crate::call::Call;
 use crate::reply::Reply;
 use st_units::{Bytes, RoomyList};
-use st_wants::Want;
 
 /// What a call met on its way.
 #[derive(Drop)]
@@ -44,15 +43,3 @@ pub struct Entry {
 
 /// Entries in order, with room.
 pub type EntryList = RoomyList<Entry>;
-
-/// What happened to the lock: each event has its seat and its ticket.
-#[derive(Drop)]
-pub enum Event {
-    Arrive(u64, u64, Want),
-    Grant(u64, u64),
-    /// With the entries of the calls that ran under the grant.
-    Release(u64, u64, EntryList),
-}
-
-/// Events in order, with room.
-pub type Log = RoomyList<Event>;

@@ -8,6 +8,7 @@ mod gate;
 mod info;
 mod laws;
 mod look;
+mod meaning;
 mod number_map;
 mod reply;
 mod state;
@@ -16,12 +17,13 @@ mod wanted;
 
 pub use answer::code_of;
 pub use call::{Call, Payload, PoolId};
-pub use entry::{Entry, EntryList, Env, Event, Log, Origin};
+pub use entry::{Entry, EntryList, Env, Origin};
 pub use gate::{Gate, NoGate};
 pub use info::{
     CacheInfo, FsInfo, FsInfoList, Infos, PoolInfo, ShownMode, StoppedList, StoppedRow, TableInfo,
 };
-pub use laws::step_keeps_validity;
+pub use laws::{reads_change_nothing, step_is_local, step_keeps_validity};
+pub use meaning::{Board, Cell, Named};
 pub use number_map::NumberMap;
 pub use reply::{Given, Identity, NewFs, Reply};
 pub use state::{CacheState, EngineState, FsState, PoolMode, PoolState};

@@ -5,8 +5,8 @@ use Rattle.std.specs.Prelude.{slice_get}
 use Rattle.st_units.specs.Roomy.{Roomy}
 use Rattle.st_wants.specs.declared.want.Want.{Want}
 use Rattle.st_model.specs.declared.entry.Entry.{Entry}
-use Rattle.st_model.specs.declared.entry.Event.{Event}
-use Rattle.st_model.specs.declared.entry.Event.TheVariants.{Arrive, Grant, Release}
+use Rattle.st_history.specs.declared.log.Event.{Event}
+use Rattle.st_history.specs.declared.log.Event.TheVariants.{Arrive, Grant, Release}
 use Rattle.st_model.specs.declared.entry.Origin.{Origin}
 use Rattle.st_model.specs.declared.entry.Origin.TheVariants.{Line}
 use Rattle.st_session.specs.Entries.{entries_of, is_line, is_from, entry_of, count_from, StandsAt}

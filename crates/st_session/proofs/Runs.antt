@@ -5,7 +5,7 @@ use Rattle.st_rack.specs.Calls.{Devices}
 use Rattle.st_wants.specs.Lock.{Lock}
 use Rattle.st_lines.specs.Lines.{lines_of}
 use Rattle.st_lines.proofs.Known.{Appends-start}
-use Rattle.st_model.specs.declared.entry.Event.{Event}
+use Rattle.st_history.specs.declared.log.Event.{Event}
 use Rattle.st_model.specs.declared.state.EngineState.{EngineState}
 use Rattle.st_session.specs.declared.session.Answer.{Answer}
 use Rattle.st_session.specs.declared.session.Session.{Session}

@@ -3,7 +3,7 @@ use Rattle.std.proofs.Common.{◌≡◌, ℕ, zero, suc, ◌+◌, List, [], ◌�
 use Rattle.std.specs.Prelude.{slice_get}
 use Rattle.st_model.specs.declared.call.Call.{Call}
 use Rattle.st_model.specs.declared.entry.Entry.{Entry}
-use Rattle.st_model.specs.declared.entry.Event.{Event}
+use Rattle.st_history.specs.declared.log.Event.{Event}
 use Rattle.st_calls.specs.declared.fault.LineFault.{LineFault}
 use Rattle.st_calls.specs.Form.{form}
 use Rattle.st_session.specs.declared.session.Answer.{Answer}

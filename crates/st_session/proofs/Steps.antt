@@ -8,17 +8,17 @@ use Rattle.st_wants.specs.Lock.{Lock, start}
 use Rattle.st_wants.specs.Rules.{lock_run}
 use Rattle.st_model.specs.declared.call.Call.{Call}
 use Rattle.st_model.specs.declared.entry.Entry.{Entry}
-use Rattle.st_model.specs.declared.entry.Event.{Event}
-use Rattle.st_model.specs.declared.entry.Event.TheVariants.{Release}
+use Rattle.st_history.specs.declared.log.Event.{Event}
+use Rattle.st_history.specs.declared.log.Event.TheVariants.{Release}
 use Rattle.st_model.specs.declared.entry.Origin.{Origin}
 use Rattle.st_model.specs.declared.entry.Origin.TheVariants.{Line}
 use Rattle.st_model.specs.declared.state.EngineState.{EngineState}
-use Rattle.st_model.specs.History.{moves_of, replay, AreSteps, AreOneCall, IsNotPrepare, IsShort, HistoryFrom, History, idle}
+use Rattle.st_history.specs.History.{moves_of, replay, AreSteps, AreOneCall, IsNotPrepare, IsShort, HistoryFrom, History, idle}
 use Rattle.st_model.specs.Step.{step, is_built}
 use Rattle.st_model.specs.Valid.{IsValid}
 use Rattle.st_model.specs.Wanted.{want_of}
-use Rattle.st_model.proofs.Built.{built-not_short}
-use Rattle.st_model.proofs.Histories.{history-append, lock_run-append, replay-append, one_call, one_call-idle, one_call-state}
+use Rattle.st_history.proofs.Short.{built-not_short}
+use Rattle.st_history.proofs.Histories.{history-append, lock_run-append, replay-append, one_call, one_call-idle, one_call-state}
 use Rattle.st_model.proofs.Validity.{step-IsValid}
 use Rattle.st_calls.specs.declared.fault.LineFault.{LineFault}
 use Rattle.st_calls.specs.Form.{form}

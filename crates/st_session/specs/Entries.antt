@@ -2,8 +2,8 @@
 use Rattle.std.specs.Prelude.{ℕ, ◌≡◌, ◌+◌, ◌==◌, List, [], ◌∷◌, ◌++◌, Bool, true, false, Option, Some, find, slice_get, if◌then◌else◌}
 use Rattle.st_units.specs.Roomy.{Roomy}
 use Rattle.st_model.specs.declared.entry.Entry.{Entry}
-use Rattle.st_model.specs.declared.entry.Event.{Event}
-use Rattle.st_model.specs.declared.entry.Event.TheVariants.{Arrive, Grant, Release}
+use Rattle.st_history.specs.declared.log.Event.{Event}
+use Rattle.st_history.specs.declared.log.Event.TheVariants.{Arrive, Grant, Release}
 use Rattle.st_model.specs.declared.entry.Origin.{Origin}
 use Rattle.st_model.specs.declared.entry.Origin.TheVariants.{Line, Prepare, Close}
 use Rattle.st_model.specs.declared.entry.Origin.TheVariants as origins

@@ -4,11 +4,11 @@ use Rattle.st_wants.specs.declared.want.Want.{Want}
 use Rattle.st_wants.specs.Lock.{start}
 use Rattle.st_wants.specs.Rules.{lock_run}
 use Rattle.st_model.specs.declared.entry.Entry.{Entry}
-use Rattle.st_model.specs.declared.entry.Event.{Event}
-use Rattle.st_model.specs.declared.entry.Event.TheVariants.{Arrive}
+use Rattle.st_history.specs.declared.log.Event.{Event}
+use Rattle.st_history.specs.declared.log.Event.TheVariants.{Arrive}
 use Rattle.st_model.specs.declared.entry.Origin.TheVariants.{Line}
 use Rattle.st_model.specs.declared.state.EngineState.{EngineState}
-use Rattle.st_model.specs.History.{moves_of, replay, History, idle}
+use Rattle.st_history.specs.History.{moves_of, replay, History, idle}
 use Rattle.st_model.specs.Valid.{IsValid}
 use Rattle.st_session.specs.declared.session.Session.{Session}
 use Rattle.st_session.specs.Entries.{entries_of, count_from, StandsAt}

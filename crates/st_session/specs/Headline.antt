@@ -4,8 +4,8 @@ use Rattle.std.specs.Io.KnownBytes.{Appends}
 use Rattle.st_rack.specs.Calls.{Devices}
 use Rattle.st_wants.specs.Lock.{start}
 use Rattle.st_wants.specs.Rules.{lock_run}
-use Rattle.st_model.specs.declared.entry.Event.{Event}
-use Rattle.st_model.specs.History.{History, moves_of}
+use Rattle.st_history.specs.declared.log.Event.{Event}
+use Rattle.st_history.specs.History.{History, moves_of}
 use Rattle.st_lines.specs.Lines.{lines_of}
 use Rattle.st_session.specs.LaneOrder.{LaneOrder}
 use Rattle.st_session.specs.Opening.{opening}

@@ -3,7 +3,7 @@ use Rattle.std.specs.Prelude.{ℕ, ◌+◌, ◌-◌, ◌==◌, List, [], ◌∷�
 use Rattle.st_units.specs.declared.cause.Cause.TheVariants as causes
 use Rattle.st_model.specs.declared.call.Call.{Call}
 use Rattle.st_model.specs.declared.entry.Entry.{Entry}
-use Rattle.st_model.specs.declared.entry.Event.{Event}
+use Rattle.st_history.specs.declared.log.Event.{Event}
 use Rattle.st_model.specs.Answer.{refused}
 use Rattle.st_calls.specs.declared.fault.LineFault.{LineFault}
 use Rattle.st_calls.specs.declared.fault.LineFault.TheVariants.{BadCall, BadName, NotBuilt, OutOfMemory}

@@ -3,8 +3,8 @@ use Rattle.std.specs.Prelude.{ℕ, ◌≡◌, ◌+◌, ◌<◌, ◌≤◌, List,
 use Rattle.st_units.specs.Roomy.{Roomy}
 use Rattle.st_model.specs.declared.call.Call.{Call}
 use Rattle.st_model.specs.declared.entry.Entry.{Entry}
-use Rattle.st_model.specs.declared.entry.Event.{Event}
-use Rattle.st_model.specs.declared.entry.Event.TheVariants.{Arrive, Grant, Release}
+use Rattle.st_history.specs.declared.log.Event.{Event}
+use Rattle.st_history.specs.declared.log.Event.TheVariants.{Arrive, Grant, Release}
 use Rattle.st_model.specs.declared.entry.Origin.TheVariants.{Line}
 use Rattle.st_model.specs.declared.state.EngineState.{EngineState}
 use Rattle.st_model.specs.Step.{IsLicensed, step}

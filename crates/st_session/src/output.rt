@@ -7,8 +7,9 @@ ghost use Rattle.st_session.specs.Running.{IsRelease};
 
 use crate::session::Answer;
 use st_calls::LineFault;
+use st_history::{Event, Log};
 use st_lines::{Failed, Outlet, Sink};
-use st_model::{Event, Log, Reply};
+use st_model::Reply;
 use st_replies::{Summary, not_built_line, reply_line, summary_line};
 use st_trace::trace_line;
 use st_units::{Bytes, Cause, NoMemory};

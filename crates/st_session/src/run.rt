@@ -1,7 +1,7 @@
 ghost use Rattle.std.specs.Prelude.{◌≡◌, []};
 
+use st_history::Log;
 use st_lines::Limit;
-use st_model::Log;
 use std::alloc::Global;
 
 /// How a run ended.

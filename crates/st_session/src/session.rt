@@ -3,8 +3,9 @@ ghost use Rattle.st_model.specs.Valid.{IsValid};
 ghost use Rattle.st_calls.specs.Form.{form};
 
 use st_calls::{LineFault, read_call};
+use st_history::{Event, Log};
 use st_model::{
-    Call, EngineState, Entry, EntryList, Env, Event, Gate, Log, Origin, Reply, step, want_of,
+    Call, EngineState, Entry, EntryList, Env, Gate, Origin, Reply, step, want_of,
 };
 use st_units::{Cause, NoMemory};
 use st_wants::Want;

@@ -17,8 +17,8 @@ use Rattle.st_model.specs.declared.call.Payload.TheVariants.{Fill, Given}
 use Rattle.st_model.specs.declared.entry.Entry.{Entry}
 use Rattle.st_model.specs.declared.entry.Env.{Env}
 use Rattle.st_model.specs.declared.entry.Env.TheVariants.{Plain, NoMem, FaultRead, FaultWrite, After, Before}
-use Rattle.st_model.specs.declared.entry.Event.{Event}
-use Rattle.st_model.specs.declared.entry.Event.TheVariants.{Arrive, Grant, Release}
+use Rattle.st_history.specs.declared.log.Event.{Event}
+use Rattle.st_history.specs.declared.log.Event.TheVariants.{Arrive, Grant, Release}
 use Rattle.st_model.specs.declared.entry.Origin.{Origin}
 use Rattle.st_model.specs.declared.entry.Origin.TheVariants.{Line, Prepare, Close}
 use Rattle.st_model.specs.declared.entry.Origin.TheVariants as origins

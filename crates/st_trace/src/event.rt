@@ -5,7 +5,8 @@ ghost use Rattle.st_trace.specs.Traced.{mode_text, want_data, env_data, origin_d
 use crate::call::call_value;
 use crate::pool_call::text;
 use serde_json::{Map, Value, json, put};
-use st_model::{Entry, Env, Event, Origin};
+use st_history::Event;
+use st_model::{Entry, Env, Origin};
 use st_replies::{json_line, reply_value};
 use st_units::{Bytes, NoMemory};
 use st_wants::{Mode, Want};

@@ -10,10 +10,10 @@ use Rattle.st_wants.specs.Lock.{Lock, row_at, has_ticket, new_row, arrived, gran
 use Rattle.st_wants.specs.Rules.{Move, May, lock_after, lock_run}
 use Rattle.st_model.specs.declared.call.Call.{Call}
 use Rattle.st_model.specs.declared.entry.Entry.{Entry}
-use Rattle.st_model.specs.declared.entry.Event.{Event}
-use Rattle.st_model.specs.declared.entry.Event.TheVariants.{Arrive, Grant, Release}
+use Rattle.st_history.specs.declared.log.Event.{Event}
+use Rattle.st_history.specs.declared.log.Event.TheVariants.{Arrive, Grant, Release}
 use Rattle.st_model.specs.declared.state.EngineState.{EngineState}
-use Rattle.st_model.specs.History.{move_of, moves_of, state_past, replay, AreSteps, AreOneCall, IsOf, IsDue, HistoryFrom, idle}
+use Rattle.st_history.specs.History.{move_of, moves_of, state_past, replay, AreSteps, AreOneCall, IsOf, IsDue, HistoryFrom, idle}
 use Rattle.st_model.specs.Step.{step}
 use Rattle.st_model.specs.Wanted.{want_of}
 
