@@ -1,2 +1,4 @@
+pub mod Failures
 pub mod Histories
 pub mod Short
+pub mod Snoc
