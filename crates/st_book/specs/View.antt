@@ -5,7 +5,7 @@ use Rattle.st_wants.specs.Lock.{Lock}
 use Rattle.st_model.specs.declared.info.PoolInfo.{PoolInfo}
 use Rattle.st_model.specs.declared.info.TableInfo.{TableInfo}
 use Rattle.st_model.specs.declared.state.PoolState.{PoolState}
-use Rattle.st_model.specs.Parts.{TableState}
+use Rattle.st_model.specs.declared.state.TableState.{TableState}
 use Rattle.st_history.specs.declared.log.Event.{Event}
 use Rattle.st_book.specs.declared.lent.Lent.{Lent}
 
