@@ -5,12 +5,14 @@
 mod back;
 mod book;
 mod home;
+mod laws;
 mod lent;
 mod lists;
 mod part;
 mod showing;
 
 pub use book::Book;
+pub use laws::part_fits;
 pub use lent::Lent;
 pub use part::{Cells, InfoList, Part, Peek};
 pub use st_history::{Event, Log};
