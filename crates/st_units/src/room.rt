@@ -45,6 +45,7 @@ impl<T> RoomyList<T> {
     pub fn reserve(&mut self, n: usize) -> Result<(), NoMemory>
         ensures items { self.new.items ≡ self.old.items }
         ensures room { OnOk result (n ≤ self.new.room) }
+        ensures kept { self.old.room ≤ self.new.room }
     {
         self.items.reserve(n)?;
         Ok(())
