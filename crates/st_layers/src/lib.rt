@@ -8,6 +8,8 @@ mod grants;
 #[cfg(test)]
 mod lines;
 #[cfg(test)]
+mod records;
+#[cfg(test)]
 mod slots;
 #[cfg(test)]
 mod turn;
