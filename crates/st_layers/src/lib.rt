@@ -12,4 +12,6 @@ mod records;
 #[cfg(test)]
 mod slots;
 #[cfg(test)]
+mod tiers;
+#[cfg(test)]
 mod turn;
