@@ -5,16 +5,17 @@ use Rattle.std.proofs.lemmas.List.{append_assoc, length-append, length-map, get_
 use Rattle.st_units.specs.declared.rows.DevRow.{DevRow}
 use Rattle.st_seg.specs.Blocks.{Block, NoneTwice, blocks_from}
 use Rattle.st_seg.specs.Stock.{Stock, added}
-use Rattle.st_datatier.specs.Tier.{Tier, IsDeviceSize, usable, data_blocks, room_of, free_of, first_block_of, sectors_of}
+use Rattle.st_rules.specs.Sums.{usable_blocks, room}
+use Rattle.st_datatier.specs.Tier.{Tier, IsDeviceSize, data_blocks, free_of, first_block_of, sectors_of}
 use Rattle.st_datatier.proofs.Devices.{data_apart, data_blocks-push, length-data_blocks}
 
 -- the blocks of one more device
-pub blocks_pushed : (sectors : List ℕ) (size : ℕ) (blocks : List Block) (dev first n : ℕ) → All IsDeviceSize sectors → blocks ≡ data_blocks sectors → dev ≡ length sectors → first ≡ first_block_of dev → n ≡ usable size → blocks ++ blocks_from dev first (n - first) ≡ data_blocks (sectors ++ size ∷ [])
+pub blocks_pushed : (sectors : List ℕ) (size : ℕ) (blocks : List Block) (dev first n : ℕ) → All IsDeviceSize sectors → blocks ≡ data_blocks sectors → dev ≡ length sectors → first ≡ first_block_of dev → n ≡ usable_blocks size → blocks ++ blocks_from dev first (n - first) ≡ data_blocks (sectors ++ size ∷ [])
 blocks_pushed sectors size blocks dev first n h is dev_is first_is n_is =
     ap (λ bs. bs ++ blocks_from dev first (n - first)) is
     ∙ (ap (λ m. data_blocks sectors ++ blocks_from dev first (m - first)) n_is
-    ∙ (ap (λ k. data_blocks sectors ++ blocks_from dev k (usable size - k)) first_is
-    ∙ (ap (λ m. data_blocks sectors ++ blocks_from m (first_block_of m) (usable size - first_block_of m)) dev_is
+    ∙ (ap (λ k. data_blocks sectors ++ blocks_from dev k (usable_blocks size - k)) first_is
+    ∙ (ap (λ m. data_blocks sectors ++ blocks_from m (first_block_of m) (usable_blocks size - first_block_of m)) dev_is
     ∙ sym (data_blocks-push sectors size h))))
 
 pub pushed_apart : (sectors : List ℕ) (size : ℕ) (blocks : List Block) → blocks ≡ data_blocks (sectors ++ size ∷ []) → NoneTwice blocks
@@ -35,12 +36,12 @@ one_more_row before now rows i row h is so_far =
     ∙ ap (λ xs. before ++ xs) (sym (map_more f rows i row h))))
 
 -- what is in use and what is free are the room
-pub tier_room : (sectors : List ℕ) (stock : Stock) (table : List Block) (tier : Tier) → record { sectors = sectors; allocated = length table } ≡ tier → stock.taken ≡ table → added stock ≡ data_blocks sectors → tier.allocated + length stock.free ≡ room_of tier.sectors
+pub tier_room : (sectors : List ℕ) (stock : Stock) (table : List Block) (tier : Tier) → record { sectors = sectors; allocated = length table } ≡ tier → stock.taken ≡ table → added stock ≡ data_blocks sectors → tier.allocated + length stock.free ≡ room tier.sectors
 tier_room sectors stock table tier is taken_is added_is =
     let sectors_is : sectors ≡ tier.sectors = ap (λ (t : Tier). t.sectors) is in
     let allocated_is : length table ≡ tier.allocated = ap (λ (t : Tier). t.allocated) is in
-    let all : length stock.taken + length stock.free ≡ room_of sectors = sym (length-append stock.taken stock.free) ∙ (ap length added_is ∙ length-data_blocks sectors) in
-    omega (arith, all, ap length taken_is, ap room_of sectors_is)
+    let all : length stock.taken + length stock.free ≡ room sectors = sym (length-append stock.taken stock.free) ∙ (ap length added_is ∙ length-data_blocks sectors) in
+    omega (arith, all, ap length taken_is, ap room sectors_is)
 
 pub tier_free : (sectors : List ℕ) (stock : Stock) (table : List Block) (tier : Tier) → record { sectors = sectors; allocated = length table } ≡ tier → stock.taken ≡ table → added stock ≡ data_blocks sectors → free_of tier ≡ length stock.free
 tier_free sectors stock table tier is taken_is added_is = omega (arith, tier_room sectors stock table tier is taken_is added_is)

@@ -1,9 +1,9 @@
 -- the data tier: its devices in order, and how many of their blocks are in use
-use Rattle.std.specs.Prelude.{ℕ, ◌+◌, ◌-◌, ◌/◌, ◌≤◌, ◌==◌, List, [], ◌∷◌, ◌++◌, map, drop, sum_by, if◌then◌else◌}
+use Rattle.std.specs.Prelude.{ℕ, ◌+◌, ◌-◌, ◌≤◌, ◌==◌, List, [], ◌∷◌, ◌++◌, map, drop, if◌then◌else◌}
 use Rattle.st_units.specs.declared.rows.DevRow.{DevRow}
 use Rattle.st_seg.specs.Blocks.{Block, blocks_from}
-use Rattle.st_linear.specs.declared.TheConstants.{FIRST_USABLE_SECTOR, BLOCK_SECTORS}
-use Rattle.st_datatier.specs.declared.size.TheConstants.{FLEX_BLOCKS, MIN_SECTORS, MAX_SECTORS}
+use Rattle.st_rules.specs.Sums.{usable_blocks, room}
+use Rattle.st_rules.specs.declared.TheConstants.{FLEX_BLOCKS, MIN_DEVICE_SECTORS, MAX_SECTORS}
 
 -- what a data tier stands for: the sectors of its devices, in order, and the blocks that are allocated
 pub record Tier : Type 0 where
@@ -15,27 +15,19 @@ sectors_of rows = map (λ row. row.sectors) rows
 
 -- a size that a device of a pool may have
 abbrev pub IsDeviceSize : ℕ → Type 0
-IsDeviceSize sectors = (MIN_SECTORS ≤ sectors) × (sectors ≤ MAX_SECTORS)
-
--- how many usable blocks a device has
-abbrev pub usable : ℕ → ℕ
-usable sectors = (sectors - FIRST_USABLE_SECTOR) / BLOCK_SECTORS
+IsDeviceSize sectors = (MIN_DEVICE_SECTORS ≤ sectors) × (sectors ≤ MAX_SECTORS)
 
 -- the usable blocks of devices in order, the first of which has the number `dev`
 abbrev pub blocks_of_devices : ℕ → List ℕ → List Block
 blocks_of_devices dev [] = []
-blocks_of_devices dev (sectors ∷ more) = blocks_from dev 0 (usable sectors) ++ blocks_of_devices (dev + 1) more
+blocks_of_devices dev (sectors ∷ more) = blocks_from dev 0 (usable_blocks sectors) ++ blocks_of_devices (dev + 1) more
 
 -- the blocks for data, in order: the flex area takes the first ones, once in the whole tier
 unfoldable pub data_blocks : List ℕ → List Block
 data_blocks sectors = drop FLEX_BLOCKS (blocks_of_devices 0 sectors)
 
--- how many they are
-abbrev pub room_of : List ℕ → ℕ
-room_of sectors = sum_by usable sectors - FLEX_BLOCKS
-
 abbrev pub free_of : Tier → ℕ
-free_of tier = room_of tier.sectors - tier.allocated
+free_of tier = room tier.sectors - tier.allocated
 
 -- the tier with more devices, which come last, or with more blocks in use
 abbrev pub with_devices : Tier → List ℕ → Tier

@@ -3,7 +3,8 @@ ghost use Rattle.std.specs.List.{All};
 ghost use Rattle.st_seg.specs.Stock.{added};
 ghost use Rattle.st_datatier.specs.Tier.{IsDeviceSize, data_blocks, first_block_of, sectors_of};
 
-use crate::size::{FLEX_BLOCKS, usable_blocks};
+use crate::size::usable_blocks;
+use st_rules::FLEX_BLOCKS;
 use st_seg::SegAlloc;
 use st_units::{DevRow, NoMemory};
 
@@ -50,5 +51,5 @@ fn add_device(sectors: &mut Vec<u64>, free: &mut SegAlloc, size: u64) -> Result<
 fn first_block(dev: u16) -> u32
     ensures { result ≡ first_block_of dev }
 {
-    if dev == 0 { FLEX_BLOCKS } else { 0 }
+    if dev == 0 { FLEX_BLOCKS as u32 } else { 0 }
 }

@@ -5,8 +5,5 @@ mod add;
 mod size;
 mod tier;
 
-pub use size::{FLEX_BLOCKS, MAX_SECTORS, MIN_SECTORS, is_device_size, usable_blocks};
+pub use size::{is_device_size, usable_blocks};
 pub use tier::DataTier;
-
-/// The most devices that a pool has.
-pub const MAX_DEVICES: usize = 16;

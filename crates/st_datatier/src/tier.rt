@@ -1,7 +1,8 @@
 ghost use Rattle.std.specs.Prelude.{◌≡◌, ℕ, ◌+◌, ◌<◌, ◌≤◌, [], length, take, Err, OnOk, OnErr, IfOk, IfErr};
 ghost use Rattle.std.specs.List.{All};
 ghost use Rattle.st_seg.specs.declared.fault.SegFault.TheVariants.{NoRoom};
-ghost use Rattle.st_datatier.specs.Tier.{IsDeviceSize, data_blocks, free_of, room_of, sectors_of, with_allocated, with_devices};
+ghost use Rattle.st_rules.specs.Sums as sums;
+ghost use Rattle.st_datatier.specs.Tier.{IsDeviceSize, data_blocks, free_of, sectors_of, with_allocated, with_devices};
 
 use crate::add::add_rows;
 use st_linear::LinearTable;
@@ -89,7 +90,7 @@ impl DataTier {
 
     /// How many blocks the devices give for data.
     pub fn room(&self) -> u64
-        ensures { result ≡ room_of self.now.sectors }
+        ensures { result ≡ sums.room self.now.sectors }
     {
         self.table.length() + self.free.free()
     }
@@ -97,7 +98,7 @@ impl DataTier {
     /// How many blocks are in use.
     pub fn allocated(&self) -> u64
         ensures value { result ≡ self.now.allocated }
-        ensures within { self.now.allocated ≤ room_of self.now.sectors }
+        ensures within { self.now.allocated ≤ sums.room self.now.sectors }
     {
         self.table.length()
     }

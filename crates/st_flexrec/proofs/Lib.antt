@@ -1,1 +1,5 @@
 pub mod ReadingLemmas
+pub mod Orders
+pub mod Marks
+pub mod Places
+pub mod Counts

@@ -1,5 +1,5 @@
 -- What is read is spelled so, and what is spelled so is read.
-use Rattle.std.proofs.Common.{◌≡◌, ℕ, ◌+◌, ◌*◌, ◌<◌, ◌≤◌, List, [], ◌∷◌, ◌++◌, length, take, drop, Result, Ok, Err, refl, sym, ap, subst, ◌∙◌, append_assoc, arith}
+use Rattle.std.proofs.Common.{◌≡◌, ℕ, ◌+◌, ◌*◌, ◌≤◌, List, [], ◌++◌, length, take, drop, Result, Ok, Err, refl, sym, ap, subst, ◌∙◌, append_assoc, arith}
 use Rattle.std.proofs.lemmas.List.{take_at, drop_at, take-append-drop, length-append, length-take-le, length-drop}
 use Rattle.st_units.specs.declared.rows.FsRow.{FsRow}
 use Rattle.st_recfields.specs.declared.fault.RecFault.{RecFault}
@@ -18,6 +18,7 @@ use Rattle.st_flexrec.specs.Rows.{MapFits, map_text, map_fields, CellFits, cell_
 use Rattle.st_flexrec.specs.Laws.{map_width, map_reads_back, cell_width, cell_reads_back}
 use Rattle.st_flexrec.specs.Record.{head_of, record_text, fs_rows_text, map_rows_text, cell_rows_text, RecFits}
 use Rattle.st_flexrec.specs.Reading.{Follows}
+use Rattle.st_flexrec.specs.Conditions.{IsFlexRec}
 
 -- ---- what follows the head
 
@@ -159,3 +160,9 @@ same_record a b x y fa fb e =
     let mappings = same_rows MapFits map_text map_fields 12 map_width map_reads_back a.mappings b.mappings cells_a cells_b fa.mappings fb.mappings (ap (λ (h : FlexHead). h.mappings) head) filesystems.1 in
     let cells = same_rows CellFits cell_text cell_fields 12 cell_width cell_reads_back a.cells b.cells x y fa.cells fb.cells (ap (λ (h : FlexHead). h.cells) head) mappings.1 in
     ((λ i. record { serial = (head i).serial; next_fs = (head i).next_fs; next_cell = (head i).next_cell; filesystems = filesystems.0 i; mappings = mappings.0 i; cells = cells.0 i }), cells.1)
+
+-- what was read is of the generation, or nothing is spelled so
+pub invalid : (bytes : List ℕ) (generation : ℕ) (rec : FlexRec) → Spells RecFits record_text bytes rec → (IsFlexRec generation rec → ⊥) → (other : FlexRec) → Spells (IsFlexRec generation) record_text bytes other → ⊥
+invalid bytes generation rec is none other os =
+    let same = same_record rec other [] [] is.fit os.fit.fits (ap (λ (l : List ℕ). l ++ []) (sym is.spelled ∙ os.spelled)) in
+    none (subst (IsFlexRec generation) (sym same.0) os.fit)

@@ -1,5 +1,5 @@
 -- The head of a flex record has its width, and is read back from its spelling.
-use Rattle.std.proofs.Common.{◌≡◌, ℕ, ◌<◌, ◌^◌, List, [], ◌++◌, length, refl, arith}
+use Rattle.std.proofs.Common.{◌≡◌, ℕ, ◌<◌, List, [], ◌++◌, length, refl, arith}
 use Rattle.st_fields.specs.Fields.{number_at, spelling}
 use Rattle.st_fields.proofs.Spellings.{number-spelling}
 use Rattle.st_flexrec.specs.declared.head.FlexHead.{FlexHead}

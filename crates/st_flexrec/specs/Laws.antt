@@ -1,5 +1,5 @@
 -- The rows of mappings and cells have their widths, and are read back from their spellings.
-use Rattle.std.proofs.Common.{◌≡◌, ℕ, ◌<◌, ◌^◌, List, [], ◌++◌, length, refl, arith}
+use Rattle.std.proofs.Common.{◌≡◌, ◌<◌, [], ◌++◌, length, refl, arith}
 use Rattle.st_fields.specs.Fields.{spelling}
 use Rattle.st_fields.proofs.Spellings.{number-spelling}
 use Rattle.st_flexrec.specs.declared.rows.MapRow.{MapRow}

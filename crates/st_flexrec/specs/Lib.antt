@@ -4,3 +4,9 @@ pub mod Head
 pub mod HeadLaws
 pub mod Record
 pub mod Reading
+pub mod Order
+pub mod OrderLaws
+pub mod Filesystems
+pub mod Mappings
+pub mod Cells
+pub mod Conditions

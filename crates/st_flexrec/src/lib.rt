@@ -1,14 +1,20 @@
 //! The flex record of a pool: its filesystems, their mappings and the cells that these share.
 //!
-//! `write` gives the one spelling of a value. `read` gives the value whose spelling the bytes are, and `NotARecord` exactly where there is none.
-//! It tests the layout alone, and none of the conditions on the rows.
+//! `encode` gives the one spelling of a record. `decode` gives the record of a generation whose
+//! spelling the bytes are, and `NotARecord` exactly where there is none.
 #![tactic(auto)]
 
+mod cells;
+mod conditions;
+mod filesystems;
 mod head;
 pub mod laws;
+mod mappings;
+mod order;
 mod record;
 mod rows;
 
-pub use record::{FlexRec, read, write};
+pub use conditions::{is_within, keeps_conditions};
+pub use record::{FlexRec, decode, encode};
 pub use rows::{CellRow, CellRows, FsRows, MapRow, MapRows};
 pub use st_recfields::RecFault;

@@ -3,7 +3,9 @@ ghost use Rattle.st_recfields.specs.Rows.{Reads, Spells};
 ghost use Rattle.st_flexrec.specs.Head.{HeadFits};
 ghost use Rattle.st_flexrec.specs.Record.{RecFits, record_text};
 ghost use Rattle.st_flexrec.specs.Reading.{Follows};
+ghost use Rattle.st_flexrec.specs.Conditions.{KeepsConditions, IsFlexRec};
 
+use crate::conditions::{is_within, keeps_conditions};
 use crate::head::{FlexHead, HEAD_WIDTH};
 use crate::rows::{CELL_WIDTH, CellRows, FsRows, MAP_WIDTH, MapRows};
 use st_recfields::{FS_WIDTH, RecFault, Row, put_rows, read_row, read_rows};
@@ -24,11 +26,10 @@ pub struct FlexRec {
     pub cells: CellRows,
 }
 
-/// The spelling of the value. Its rows have to be as many as the head can count.
-pub fn write(alloc: Global, rec: &FlexRec) -> Result<Bytes, NoMemory>
-    requires filesystems { length rec.now.filesystems < 2 ^ 16 }
-    requires mappings { length rec.now.mappings < 2 ^ 32 }
-    requires cells { length rec.now.cells < 2 ^ 32 }
+/// The spelling of the record, which has to keep its conditions.
+#[tactic(auto, using(crate::proofs::Counts::filesystems_few, crate::proofs::Counts::mappings_few, crate::proofs::Counts::cells_few))]
+pub fn encode(alloc: Global, rec: &FlexRec) -> Result<Bytes, NoMemory>
+    requires { KeepsConditions rec.now }
     ensures { IfOk result (λ bytes. bytes ≡ record_text rec.now) }
 {
     let head = FlexHead {
@@ -47,8 +48,27 @@ pub fn write(alloc: Global, rec: &FlexRec) -> Result<Bytes, NoMemory>
     Ok(Bytes::of(out))
 }
 
+/// The record of this generation whose spelling the bytes are. `NotARecord` comes exactly where there
+/// is none.
+pub fn decode(alloc: Global, bytes: &[u8], generation: u64) -> Result<FlexRec, RecFault>
+    ensures { Reads (Spells (IsFlexRec generation) record_text bytes.now) result }
+{
+    let rec = match read(alloc, bytes) {
+        Err(fault) => return Err(fault),
+        Ok(rec) => rec,
+    };
+    if !is_within(generation, &rec) {
+        return Err(RecFault::NotARecord);
+    }
+    match keeps_conditions(alloc, &rec) {
+        Err(NoMemory) => Err(RecFault::OutOfMemory),
+        Ok(true) => Ok(rec),
+        Ok(false) => Err(RecFault::NotARecord),
+    }
+}
+
 /// The value whose spelling the bytes are, whether or not it keeps the conditions.
-pub fn read(alloc: Global, bytes: &[u8]) -> Result<FlexRec, RecFault>
+fn read(alloc: Global, bytes: &[u8]) -> Result<FlexRec, RecFault>
     ensures { Reads (Spells RecFits record_text bytes.now) result }
 {
     if bytes.len() < HEAD_WIDTH {

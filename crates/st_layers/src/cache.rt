@@ -66,3 +66,15 @@ fn touch_promotes_and_drops_the_last(rt: HostRuntime) -> Result<(), Fail> {
     assert!(rt; map.peek(7).is_some());
     Ok(())
 }
+
+#[test]
+fn reads_of_63_blocks_through_a_cache_of_62(rt: HostRuntime) -> Result<(), Fail> {
+    let mut map = CacheMap::make(rt.alloc(), 62)?;
+    for block in 0..63 {
+        map.touch(block);
+    }
+    map.touch(0);
+    map.touch(0);
+    assert_eq!(rt; (map.len(), map.hits(), map.misses()), (62, 1, 64));
+    Ok(())
+}

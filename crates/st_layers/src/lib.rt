@@ -8,6 +8,10 @@ mod grants;
 #[cfg(test)]
 mod lines;
 #[cfg(test)]
+mod records;
+#[cfg(test)]
 mod slots;
+#[cfg(test)]
+mod tiers;
 #[cfg(test)]
 mod turn;

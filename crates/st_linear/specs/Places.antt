@@ -2,11 +2,11 @@
 use Rattle.std.specs.Prelude.{ℕ, ◌+◌, ◌*◌, List, Option, slice_get}
 use Rattle.std.specs.Option.{option_map}
 use Rattle.st_seg.specs.Blocks.{Block}
-use Rattle.st_linear.specs.declared.TheConstants.{FIRST_USABLE_SECTOR, BLOCK_SECTORS}
+use Rattle.st_rules.specs.declared.TheConstants.{RESERVED_SECTORS, BLOCK_SECTORS}
 
 -- a block's device, and its first sector there
 abbrev pub place_of : Block → ℕ × ℕ
-place_of block = (block.0, FIRST_USABLE_SECTOR + BLOCK_SECTORS * block.1)
+place_of block = (block.0, RESERVED_SECTORS + BLOCK_SECTORS * block.1)
 
 -- the place of the b-th block
 abbrev pub place_at : List Block → ℕ → Option (ℕ × ℕ)

@@ -5,7 +5,7 @@ ghost use Rattle.st_seg.specs.Blocks.{IsSegment, NoneTwice, blocks_of};
 ghost use Rattle.st_linear.specs.Places.{place_at};
 ghost use Rattle.st_linear.specs.Runs.{AreRuns, blocks_of_runs};
 
-use crate::{BLOCK_SECTORS, FIRST_USABLE_SECTOR};
+use st_rules::{BLOCK_SECTORS, RESERVED_SECTORS};
 use st_units::{NoMemory, SegList, Segment};
 use std::alloc::Global;
 use std::marker::Model;
@@ -78,10 +78,7 @@ impl LinearTable {
     {
         let run = self.runs[runs_up_to(&self.runs, block) - 1];
         let number = u64::from(run.segment.first) + (block - run.start);
-        (
-            run.segment.dev,
-            FIRST_USABLE_SECTOR + BLOCK_SECTORS * number,
-        )
+        (run.segment.dev, RESERVED_SECTORS + BLOCK_SECTORS * number)
     }
 
     /// The same table once more.

@@ -1,17 +1,15 @@
 -- A rack is filled from the last device on.
-use Rattle.std.proofs.Common.{◌≡◌, ℕ, zero, suc, ◌+◌, ◌<◌, ◌≤◌, Bool, true, false, cond, is_some, Some, None, Option, IsNone, List, [], ◌∷◌, length, get_or, drop, map, refl, sym, ◌∙◌, ap, subst, arith}
+use Rattle.std.proofs.Common.{◌≡◌, ℕ, zero, suc, ◌<◌, ◌≤◌, Bool, true, false, cond, is_some, Some, None, Option, IsNone, List, [], ◌∷◌, length, get_or, drop, map, refl, sym, ◌∙◌, ap, arith}
 use Rattle.std.specs.List.{AllByRecursion, IsDistinct}
 use Rattle.std.specs.Str.{bytes_eq}
 use Rattle.std.proofs.lemmas.List.{drop_all}
 use Rattle.st_rack.specs.Device.{Path, DevState}
 use Rattle.st_rack.specs.Calls.{Devices, sectors_of, path_in}
-use Rattle.st_slabs.specs.Shelf.{look, rows_of, state_in, is_in, insert_in, no_device}
+use Rattle.st_slabs.specs.Shelf.{look, insert_in, no_device}
 use Rattle.st_slabs.proofs.Order.{rises_none}
 use Rattle.st_slabs.proofs.Look.{bytes_eq-sym, sectors_look, is_in_some}
 use Rattle.st_slabs.proofs.Come.{look-insert_in, length-insert_in, rises-insert}
-use Rattle.st_memrack.specs.Slab.{slab_path, slab_size, slab_state, slab_reads}
 use Rattle.st_memrack.specs.Blank.{AreDistinct, Filled}
-use Rattle.st_memrack.specs.declared.slab.Slab.{Slab}
 
 abbrev Row : Type 0
 Row = Path × ℕ
@@ -32,33 +30,34 @@ fresh [] k d h lt = absurd (omega arith)
 fresh (x ∷ given) zero d h lt = all_other x.0 given h.0
 fresh (x ∷ given) (suc k) d h lt = fresh given k d h.1 (omega arith)
 
-pub filled_none : (given : Devices) (k : ℕ) → length given ≤ k → k ≤ length given → Filled given k []
-filled_none given k le ge = record {
-  devices = λ p. sym (ap (λ (l : Devices). sectors_of l p) (drop_all k given le));
-  rises = rises_none slab_path slab_size;
-  zeros = λ p. refl;
-  count = omega arith;
-  unread = λ p. refl;
-}
-
 same_either : {A : Type 0} (b : Bool) (x : A) → cond b x x ≡ x
 same_either true x = refl
 same_either false x = refl
 
-pub filled_more : (given : Devices) (k left : ℕ) (d : Row) (slabs : List Slab) (s : Slab) → left ≡ suc k → AreDistinct given → k < length given → Filled given left slabs
-    → slab_path s ≡ (get_or given k d).0 → slab_size s ≡ (get_or given k d).1 → slab_state s ≡ no_device → s.reads ≡ 0 → Filled given k (insert_in slab_path s slabs)
-filled_more given k left d slabs s is distinct lt filled path size state reads = record {
-  devices = λ p.
-      sectors_look slab_path slab_size (insert_in slab_path s slabs) p ∙ look-insert_in slab_path (λ x. Some (slab_size x)) None s slabs p
-      ∙ (λ i. cond (bytes_eq (path i) p) (Some (size i)) (rest p i))
-      ∙ sym (sectors_more given k d p lt);
-  rises = rises-insert slab_path slab_size s slabs
-      (is_in_some slab_path slab_size slabs (slab_path s) ∙ ap (λ (o : Option ℕ). is_some o) (filled.devices (slab_path s))
-      ∙ (λ i. is_some (sectors_of (drop (is i) given) (path i))) ∙ fresh given k d distinct lt) filled.rises;
-  zeros = λ p. look-insert_in slab_path slab_state no_device s slabs p ∙ (λ i. cond (bytes_eq (slab_path s) p) (state i) (filled.zeros p i)) ∙ same_either (bytes_eq (slab_path s) p) no_device;
-  count = omega (arith, length-insert_in slab_path s slabs, filled.count, is);
-  unread = λ p. look-insert_in slab_path slab_reads 0 s slabs p ∙ (λ i. cond (bytes_eq (slab_path s) p) (reads i) (filled.unread p i)) ∙ same_either (bytes_eq (slab_path s) p) 0;
-}
-  where
-    rest : (p : Path) → look slab_path (λ x. Some (slab_size x)) None slabs p ≡ sectors_of (drop (suc k) given) p
-    rest p = sym (sectors_look slab_path slab_size slabs p) ∙ filled.devices p ∙ ap (λ (j : ℕ). sectors_of (drop j given) p) is
+module _ {D : Type 0} (path : D → Path) (size : D → ℕ) (state : D → DevState) (reads : D → ℕ) (given : Devices) where
+  pub filled_none : (k : ℕ) → length given ≤ k → k ≤ length given → Filled path size state reads given k []
+  filled_none k le ge = record {
+    devices = λ p. sym (ap (λ (l : Devices). sectors_of l p) (drop_all k given le));
+    rises = rises_none path size;
+    zeros = λ p. refl;
+    count = omega arith;
+    unread = λ p. refl;
+  }
+
+  pub filled_more : (k left : ℕ) (d : Row) (list : List D) (s : D) → left ≡ suc k → AreDistinct given → k < length given → Filled path size state reads given left list
+      → path s ≡ (get_or given k d).0 → size s ≡ (get_or given k d).1 → state s ≡ no_device → reads s ≡ 0 → Filled path size state reads given k (insert_in path s list)
+  filled_more k left d list s is distinct lt filled there sectors blank unread = record {
+    devices = λ p.
+        sectors_look path size (insert_in path s list) p ∙ look-insert_in path (λ x. Some (size x)) None s list p
+        ∙ (λ i. cond (bytes_eq (there i) p) (Some (sectors i)) (rest p i))
+        ∙ sym (sectors_more given k d p lt);
+    rises = rises-insert path size s list
+        (is_in_some path size list (path s) ∙ ap (λ (o : Option ℕ). is_some o) (filled.devices (path s))
+        ∙ (λ i. is_some (sectors_of (drop (is i) given) (there i))) ∙ fresh given k d distinct lt) filled.rises;
+    zeros = λ p. look-insert_in path state no_device s list p ∙ (λ i. cond (bytes_eq (path s) p) (blank i) (filled.zeros p i)) ∙ same_either (bytes_eq (path s) p) no_device;
+    count = omega (arith, length-insert_in path s list, filled.count, is);
+    unread = λ p. look-insert_in path reads 0 s list p ∙ (λ i. cond (bytes_eq (path s) p) (unread i) (filled.unread p i)) ∙ same_either (bytes_eq (path s) p) 0;
+  }
+    where
+      rest : (p : Path) → look path (λ x. Some (size x)) None list p ≡ sectors_of (drop (suc k) given) p
+      rest p = sym (sectors_look path size list p) ∙ filled.devices p ∙ ap (λ (j : ℕ). sectors_of (drop j given) p) is

@@ -1,10 +1,9 @@
 -- Devices that are changed one after the other.
-use Rattle.std.proofs.Common.{◌≡◌, inl, inr, ℕ, zero, suc, ◌<◌, ◌≤◌, Bool, true, false, cond, is_some, Some, None, Option, IsNone, List, [], ◌∷◌, length, get_or, slice_set, refl, sym, ◌∙◌, ap, subst, arith}
+use Rattle.std.proofs.Common.{◌≡◌, inl, inr, ℕ, zero, suc, ◌<◌, ◌≤◌, Bool, true, false, cond, List, [], ◌∷◌, length, get_or, slice_set, refl, sym, ◌∙◌, ap, subst, arith}
 use Rattle.std.specs.List.{AllZip}
 use Rattle.std.specs.Str.{bytes_eq}
 use Rattle.std.proofs.lemmas.Bool.{cases_Bool}
-use Rattle.st_rack.specs.Device.{Path, DevState, State, Cut}
-use Rattle.st_rack.specs.Calls.{Devices, Has, sectors_of}
+use Rattle.st_rack.specs.Device.{Path, DevState, Cut}
 use Rattle.st_rack.specs.Moments.{AllCut}
 use Rattle.st_slabs.specs.Shelf.{look, rows_of, state_in, is_in, no_device}
 use Rattle.st_slabs.proofs.Look.{look_none, not_in, has_in}

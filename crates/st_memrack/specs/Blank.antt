@@ -2,7 +2,7 @@
 use Rattle.std.specs.Prelude.{◌≡◌, ℕ, ◌+◌, List, map, length, drop}
 use Rattle.std.specs.List.{IsDistinct}
 use Rattle.std.specs.Str.{bytes_eq}
-use Rattle.st_rack.specs.Device.{Path, State, Synced}
+use Rattle.st_rack.specs.Device.{Path, DevState, State, Synced}
 use Rattle.st_rack.specs.Calls.{Devices, Rises, sectors_of, path_in}
 use Rattle.st_slabs.specs.Shelf.{look, rows_of, state_in, no_device}
 use Rattle.st_memrack.specs.Slab.{slab_path, slab_size, slab_state, slab_reads}
@@ -20,13 +20,13 @@ pub record IsBlank {D : Type 0} (devs : D → Devices) (moment : D → ℕ) (sta
   pub count : length (devs rack) ≡ length given
   pub unread : (p : Path) → reads rack p ≡ 0
 
--- these slabs are the given devices from the k-th on, blank and in order
-pub record Filled (given : Devices) (k : ℕ) (slabs : List Slab) : Type 0 where
-  pub devices : (p : Path) → sectors_of (rows_of slab_path slab_size slabs) p ≡ sectors_of (drop k given) p
-  pub rises : Rises (rows_of slab_path slab_size slabs)
-  pub zeros : (p : Path) → state_in slab_path slab_state slabs p ≡ no_device
-  pub count : length slabs + k ≡ length given
-  pub unread : (p : Path) → look slab_path slab_reads 0 slabs p ≡ 0
+-- these are the given devices from the k-th on, blank and in order
+pub record Filled {D : Type 0} (path : D → Path) (size : D → ℕ) (state : D → DevState) (reads_of : D → ℕ) (given : Devices) (k : ℕ) (list : List D) : Type 0 where
+  pub devices : (p : Path) → sectors_of (rows_of path size list) p ≡ sectors_of (drop k given) p
+  pub rises : Rises (rows_of path size list)
+  pub zeros : (p : Path) → state_in path state list p ≡ no_device
+  pub count : length list + k ≡ length given
+  pub unread : (p : Path) → look path reads_of 0 list p ≡ 0
 
 -- a slab and what a sync leaves of it
 pub record IsSettled (old new : Slab) : Type 0 where

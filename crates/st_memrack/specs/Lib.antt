@@ -1,2 +1,5 @@
 pub mod Slab
 pub mod Blank
+pub mod One
+pub mod Ends
+pub mod MemRack

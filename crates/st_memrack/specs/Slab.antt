@@ -1,5 +1,5 @@
 -- What a device that is one block of bytes shows.
-use Rattle.std.specs.Prelude.{◌≡◌, ℕ, ◌/◌, List, length, slice_index, Vec}
+use Rattle.std.specs.Prelude.{ℕ, ◌/◌, List, length, slice_index}
 use Rattle.st_rack.specs.Story.{Content}
 use Rattle.st_rack.specs.Device.{Path, DevState}
 use Rattle.st_slabs.specs.Told.{story_of}

@@ -1,8 +1,12 @@
 //! Racks in memory.
 #![tactic(auto)]
 
+mod calls;
+mod memrack;
 mod nofault;
 mod slab;
 
+pub use memrack::MemRack;
 pub use nofault::NoFaultRack;
 pub use slab::Slab;
+pub use st_sparse::{How, Kind, Pick};

@@ -42,7 +42,7 @@ impl NoFaultRack {
 // From the last on, so that at each step the slabs are the devices from `left` on.
 fn blank_slabs(alloc: Global, devs: &[(DevPath, u64)]) -> Result<Vec<Slab>, NoMemory>
     requires { AreDistinct devs.now }
-    ensures { IfOk result (λ v. Filled devs.now 0 v.items) }
+    ensures { IfOk result (λ v. Filled slab_path slab_size slab_state slab_reads devs.now 0 v.items) }
 {
     let mut slabs = Vec::with_capacity(alloc, devs.len())?;
     let mut left = devs.len();

@@ -1,4 +1,4 @@
-use Rattle.std.proofs.Common.{◌≡◌, ◌≤◌, length, arith}
+use Rattle.std.proofs.Common.{arith}
 use Rattle.st_flexrec.proofs.ReadingLemmas.{bad_head, with_head}
 use Rattle.st_flexrec.proofs.record.read.Goals as goal
 

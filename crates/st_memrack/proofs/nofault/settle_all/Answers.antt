@@ -1,4 +1,4 @@
-use Rattle.std.proofs.Common.{◌≡◌, ◌≤◌, ◌<◌, length, subst, refl, add-one, arith}
+use Rattle.std.proofs.Common.{◌≤◌, ◌<◌, length, subst, refl, add-one, arith}
 use Rattle.st_memrack.specs.Blank.{IsSettled}
 use Rattle.st_memrack.specs.declared.slab.Slab.{Slab}
 use Rattle.st_memrack.proofs.Zip.{none_yet, one_more, all_done}

@@ -1,18 +1,13 @@
-use Rattle.std.proofs.Common.{◌≡◌, ℕ, ◌+◌, ◌-◌, ◌*◌, ◌/◌, ◌^◌, ◌<◌, ◌≤◌, ◌++◌, min, not, Bool, true, false, cond, Option, Some, None, IsNone, List, length, map, get_or, slice_set, subst, sym, ◌∙◌, refl, ap, arith}
-use Rattle.st_rack.specs.Device.{Path, DevState, State, Written, Touched, Settling, Synced, Cut, cells}
-use Rattle.st_rack.specs.Calls.{Devices, Rises, Rose, names}
-use Rattle.st_rack.specs.Moments.{OnDevice, AllCut}
-use Rattle.st_slabs.specs.Shelf.{look, rows_of, state_in, is_in, no_device, IsFirst}
-use Rattle.st_slabs.specs.Past.{was}
-use Rattle.st_slabs.proofs.Look.{fits, first_path, rows_set, look_set_kept, look_first, look_set_same, look_set_other, not_in, has_in, sectors_first}
-use Rattle.st_slabs.proofs.Change.{one_device, goes, splits, joins}
-use Rattle.st_slabs.proofs.Leave.{look-filter, rises-filter}
-use Rattle.st_slabs.proofs.Come.{look-join_in, rises-join}
+use Rattle.std.proofs.Common.{List, get_or, slice_set, subst, sym, ◌∙◌, ap}
+use Rattle.st_rack.specs.Device.{Settling, Synced}
+use Rattle.st_rack.specs.Calls.{Devices, Rises}
+use Rattle.st_rack.specs.Moments.{OnDevice}
+use Rattle.st_slabs.specs.Shelf.{IsFirst}
+use Rattle.st_slabs.proofs.Look.{first_path, rows_set, look_set_kept}
+use Rattle.st_slabs.proofs.Change.{one_device, goes}
 use Rattle.st_memrack.specs.Slab.{slab_path, slab_size, slab_state, slab_reads}
-use Rattle.st_memrack.specs.Blank.{IsSettled}
 use Rattle.st_memrack.specs.declared.slab.Slab.{Slab}
-use Rattle.st_memrack.proofs.Zip.{rows_zip, look_zip, cut_zip}
-use Rattle.st_memrack.proofs.Whole.{past_of, list_of, both_now, set_state, first_state, synced_settles, settled_cut, rose_by, apart_in}
+use Rattle.st_memrack.proofs.Whole.{past_of, list_of, both_now, synced_settles}
 use Rattle.st_memrack.proofs.nofault.NoFaultRackRack.sync.Goals as goal
 
 pub invariant_of-self : goal.invariant_of-self
@@ -48,7 +43,7 @@ returns-clause-synced c =
     let path = c.settle.ensures.path ∙ ap slab_path c.index_mut.ensures.value ∙ first_path slab_path slabs dev i d first in
     let synced = subst (λ (s : Slab). Synced (slab_state s) (slab_state v)) c.index_mut.ensures.value c.settle.ensures.synced in
     let change = one_device slab_path slab_state slabs dev i v d Synced first path synced in
-    both_now c.args.self.now.past.value c.remember.new.past.value slabs (slice_set slabs i v) (λ a b. Synced (a dev) (b dev)) change.here
+    both_now slab_path slab_state c.args.self.now.past.value c.remember.new.past.value slabs (slice_set slabs i v) (λ a b. Synced (a dev) (b dev)) change.here
 
 pub returns-clause-time : goal.returns-clause-time
 returns-clause-time c =

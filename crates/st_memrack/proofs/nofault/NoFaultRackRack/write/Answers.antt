@@ -1,18 +1,13 @@
-use Rattle.std.proofs.Common.{◌≡◌, ℕ, ◌+◌, ◌-◌, ◌*◌, ◌/◌, ◌^◌, ◌<◌, ◌≤◌, ◌++◌, min, not, Bool, true, false, cond, Option, Some, None, IsNone, List, length, map, get_or, slice_set, subst, sym, ◌∙◌, refl, ap, arith}
-use Rattle.st_rack.specs.Device.{Path, DevState, State, Written, Touched, Settling, Synced, Cut, cells}
-use Rattle.st_rack.specs.Calls.{Devices, Rises, Rose, names}
-use Rattle.st_rack.specs.Moments.{OnDevice, AllCut}
-use Rattle.st_slabs.specs.Shelf.{look, rows_of, state_in, is_in, no_device, IsFirst}
-use Rattle.st_slabs.specs.Past.{was}
-use Rattle.st_slabs.proofs.Look.{fits, first_path, rows_set, look_set_kept, look_first, look_set_same, look_set_other, not_in, has_in, sectors_first}
-use Rattle.st_slabs.proofs.Change.{one_device, goes, splits, joins}
-use Rattle.st_slabs.proofs.Leave.{look-filter, rises-filter}
-use Rattle.st_slabs.proofs.Come.{look-join_in, rises-join}
+use Rattle.std.proofs.Common.{◌+◌, ◌*◌, ◌≤◌, List, length, slice_set, subst, sym, ◌∙◌, ap}
+use Rattle.st_rack.specs.Device.{DevState, Written, Touched}
+use Rattle.st_rack.specs.Calls.{Devices, Rises}
+use Rattle.st_rack.specs.Moments.{OnDevice}
+use Rattle.st_slabs.specs.Shelf.{IsFirst}
+use Rattle.st_slabs.proofs.Look.{fits, first_path, rows_set, look_set_kept}
+use Rattle.st_slabs.proofs.Change.{one_device, goes}
 use Rattle.st_memrack.specs.Slab.{slab_path, slab_size, slab_state, slab_reads}
-use Rattle.st_memrack.specs.Blank.{IsSettled}
 use Rattle.st_memrack.specs.declared.slab.Slab.{Slab}
-use Rattle.st_memrack.proofs.Zip.{rows_zip, look_zip, cut_zip}
-use Rattle.st_memrack.proofs.Whole.{past_of, list_of, both_now, set_state, first_state, synced_settles, settled_cut, rose_by, apart_in}
+use Rattle.st_memrack.proofs.Whole.{past_of, list_of, both_now, set_state}
 use Rattle.st_memrack.proofs.nofault.NoFaultRackRack.write.Goals as goal
 
 pub put-requires : goal.put-requires
@@ -69,7 +64,7 @@ returns-clause-touched c =
     let path = c.put.ensures.path ∙ ap slab_path c.index_mut.ensures.value ∙ first_path slab_path slabs dev i d first in
     let change = one_device slab_path slab_state slabs dev i v d (Touched (512 * c.args.sector) c.args.bytes.now) first path
     (subst (λ (s : Slab). Touched (512 * c.args.sector) c.args.bytes.now (slab_state s) (slab_state v)) c.index_mut.ensures.value c.put.ensures.touched) in
-    both_now c.args.self.now.past.value c.remember.new.past.value slabs (slice_set slabs i v) (OnDevice dev (Touched (512 * c.args.sector) c.args.bytes.now)) change
+    both_now slab_path slab_state c.args.self.now.past.value c.remember.new.past.value slabs (slice_set slabs i v) (OnDevice dev (Touched (512 * c.args.sector) c.args.bytes.now)) change
 
 pub returns-clause-time : goal.returns-clause-time
 returns-clause-time c =

@@ -1,0 +1,65 @@
+ghost use Rattle.std.specs.Prelude.{◌≡◌, ◌<◌, Bool, true, length, IfOk};
+ghost use Rattle.std.specs.Bool.{Decides};
+ghost use Rattle.st_flexrec.specs.Conditions.{has_few_rows, counts_from_one, KeepsConditions, is_within};
+
+use crate::cells::cells_fit;
+use crate::filesystems::filesystems_fit;
+use crate::mappings::mappings_fit;
+use crate::record::FlexRec;
+use st_units::NoMemory;
+use std::alloc::Global;
+
+/// The most filesystems of a pool.
+const MOST_FILESYSTEMS: usize = 128;
+
+/// The most mappings of a pool.
+const MOST_MAPPINGS: usize = 32_768;
+
+/// The most cells of a pool.
+const MOST_CELLS: usize = 32_768;
+
+/// How many cell numbers a commit takes at most.
+const CELLS_OF_COMMIT: u64 = 2;
+
+/// How many serials of filesystems a commit takes at most.
+const FILESYSTEMS_OF_COMMIT: u64 = 128;
+
+/// Whether the record keeps all conditions that don't speak of the generation.
+pub fn keeps_conditions(alloc: Global, rec: &FlexRec) -> Result<bool, NoMemory>
+    ensures { IfOk result (λ kept. Decides kept (KeepsConditions rec.now)) }
+{
+    if !(has_few_rows(rec) && counts_from_one(rec)) {
+        return Ok(false);
+    }
+    let filesystems = rec.filesystems.items();
+    let mappings = rec.mappings.items();
+    if !filesystems_fit(rec.next_fs, filesystems) {
+        return Ok(false);
+    }
+    if !mappings_fit(filesystems, rec.cells.len(), mappings) {
+        return Ok(false);
+    }
+    cells_fit(alloc, rec.next_cell, mappings, rec.cells.items())
+}
+
+fn has_few_rows(rec: &FlexRec) -> bool
+    ensures { result ≡ has_few_rows rec.now }
+{
+    rec.filesystems.len() <= MOST_FILESYSTEMS
+        && rec.mappings.len() <= MOST_MAPPINGS
+        && rec.cells.len() <= MOST_CELLS
+}
+
+fn counts_from_one(rec: &FlexRec) -> bool
+    ensures { result ≡ counts_from_one rec.now }
+{
+    1 <= rec.next_fs && 1 <= rec.next_cell
+}
+
+/// Whether a commit of this generation can have made the record.
+pub fn is_within(generation: u64, rec: &FlexRec) -> bool
+    ensures { result ≡ is_within generation rec.now }
+{
+    rec.next_cell <= generation.saturating_mul(CELLS_OF_COMMIT)
+        && rec.next_fs <= generation.saturating_mul(FILESYSTEMS_OF_COMMIT)
+}

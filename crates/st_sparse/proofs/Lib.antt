@@ -1,0 +1,5 @@
+pub mod Kept
+pub mod Over
+pub mod Tears
+pub mod Prefix
+pub mod Steps

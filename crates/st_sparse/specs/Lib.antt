@@ -1,0 +1,4 @@
+pub mod Sectors
+pub mod Since
+pub mod Arms
+pub mod Sparse
