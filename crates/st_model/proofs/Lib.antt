@@ -1,4 +1,5 @@
 pub mod Built
+pub mod Codes
 pub mod Distinct
 pub mod Flights
 pub mod Fresh

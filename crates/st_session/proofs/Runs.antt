@@ -8,7 +8,7 @@ use Rattle.st_lines.proofs.Known.{Appends-start}
 use Rattle.st_history.specs.declared.log.Event.{Event}
 use Rattle.st_model.specs.declared.state.EngineState.{EngineState}
 use Rattle.st_session.specs.declared.session.Answer.{Answer}
-use Rattle.st_session.specs.declared.session.Session.{Session}
+use Rattle.st_session.specs.View.{SessionView}
 use Rattle.st_session.specs.Going.{IsGoing}
 use Rattle.st_session.specs.Headline.{AreLinesOf, IsRunOf}
 use Rattle.st_session.specs.Opening.{opening}
@@ -27,11 +27,11 @@ started_nothing held whole = record { written = []; rest = whole; took = Appends
 pub unwritten : (left held : Option (List ℕ)) (trace : Bool) (log : List Event) → (lines : List (List ℕ)) × AreLinesOf left lines × Started held held (out 1 trace lines log)
 unwritten left held trace log = let some = lines_for left in (some.0, some.1, started_nothing held (out 1 trace some.0 log))
 
-pub going-IsRunOf : (devs : Devices) (lines : List (List ℕ)) (s : EngineState) (i : ℕ) (session : Session) → s ≡ opening devs → IsGoing lines s i session → IsRunOf devs lines session.log.items
+pub going-IsRunOf : (devs : Devices) (lines : List (List ℕ)) (s : EngineState) (i : ℕ) (session : SessionView) → s ≡ opening devs → IsGoing lines s i session → IsRunOf devs lines session.log
 going-IsRunOf devs lines s i session e h =
     let own : IsGoing lines (opening devs) i session = subst (λ (x : EngineState). IsGoing lines x i session) e h in
     record {
       history = own.history;
-      order = laned-LaneOrder lines i session.tickets session.log.items own.laned;
+      order = laned-LaneOrder lines i session.tickets session.log own.laned;
       quiet = ap (λ (l : Lock). l.rows) own.lock;
     }

@@ -25,7 +25,7 @@ use Rattle.st_calls.specs.Form.{form}
 use Rattle.st_calls.proofs.Given.{form-IsCall}
 use Rattle.st_session.specs.declared.session.Answer.{Answer}
 use Rattle.st_session.specs.declared.session.Answer.TheVariants.{Ran, Fault, Refused}
-use Rattle.st_session.specs.declared.session.Session.{Session}
+use Rattle.st_session.specs.View.{SessionView}
 use Rattle.st_session.specs.Entries.{entries_of, is_from, entry_of, count_from}
 use Rattle.st_session.specs.LaneOrder.{IsLineCall}
 use Rattle.st_session.specs.Running.{IsEntryOf, events_of, RanCall, Stayed, Answered, IsAnswer, AreAnswers}
@@ -35,20 +35,20 @@ use Rattle.st_session.proofs.Logs.{call_events, entries_of-call, none_from, is_f
 use Rattle.st_session.proofs.Places.{at_append, at_front, at_back, found_first, found_later}
 
 -- a call that ran after a moment in which nothing changed
-pub ran_after : (n : ℕ) (call : Call) (old mid new : Session) (place : ℕ) → Stayed old mid → RanCall n call mid new place → RanCall n call old new place
+pub ran_after : (n : ℕ) (call : Call) (old mid new : SessionView) (place : ℕ) → Stayed old mid → RanCall n call mid new place → RanCall n call old new place
 ran_after n call old mid new place stayed ran = record {
   entry = ran.entry;
   entries = ran.entries;
   alone = ran.alone;
   is_due = subst (λ (s : EngineState). IsEntryOf s n call ran.entry) stayed.state ran.is_due;
   state = ran.state ∙ ap (λ (s : EngineState). (step s ran.entry.call ran.entry.env).1) stayed.state;
-  log = ran.log ∙ ap (λ (x : ℕ). mid.log.items ++ events_of x ran.entries call) stayed.tickets ∙ ap (λ (log : List Event). log ++ events_of old.tickets ran.entries call) stayed.log;
+  log = ran.log ∙ ap (λ (x : ℕ). mid.log ++ events_of x ran.entries call) stayed.tickets ∙ ap (λ (log : List Event). log ++ events_of old.tickets ran.entries call) stayed.log;
   tickets = ran.tickets ∙ ap (λ (x : ℕ). x + 1) stayed.tickets;
   released = ran.released ∙ ap (λ (log : List Event). length log + 2) stayed.log;
 }
 
 -- before the first line
-pub going_start : (lines : List (List ℕ)) (session : Session) → session.log.items ≡ [] → session.tickets ≡ 0 → IsValid session.state → IsGoing lines session.state 0 session
+pub going_start : (lines : List (List ℕ)) (session : SessionView) → session.log ≡ [] → session.tickets ≡ 0 → IsValid session.state → IsGoing lines session.state 0 session
 going_start lines session log tickets valid = record {
   history = rw log tt;
   lock = rw (log, tickets) refl;
@@ -58,44 +58,44 @@ going_start lines session log tickets valid = record {
   laned = rw (log, tickets) (laned_start lines);
 }
 
-going_skip : (lines : List (List ℕ)) (s0 : EngineState) (i : ℕ) (old new : Session) → IsGoing lines s0 i old → Stayed old new → IsGoing lines s0 (i + 1) new
+going_skip : (lines : List (List ℕ)) (s0 : EngineState) (i : ℕ) (old new : SessionView) → IsGoing lines s0 i old → Stayed old new → IsGoing lines s0 (i + 1) new
 going_skip lines s0 i old new h stayed = record {
   history = subst (History s0) (sym stayed.log) h.history;
   lock = ap (λ log. lock_run start (moves_of log)) stayed.log ∙ h.lock ∙ ap idle (sym stayed.tickets);
   state = ap (replay s0) stayed.log ∙ h.state ∙ sym stayed.state;
   valid = subst IsValid (sym stayed.state) h.valid;
   few = omega (arith, stayed.tickets, h.few);
-  laned = laned_skip lines i new.tickets new.log.items (rw (stayed.tickets, stayed.log) h.laned);
+  laned = laned_skip lines i new.tickets new.log (rw (stayed.tickets, stayed.log) h.laned);
 }
 
-going_call : (lines : List (List ℕ)) (s0 : EngineState) (i : ℕ) (line : List ℕ) (lane : ℕ) (call : Call) (old new : Session) (place : ℕ) → IsGoing lines s0 i old → slice_get lines i ≡ Some line → form 1 line ≡ Ok (lane, call) → RanCall (i + 1) call old new place
+going_call : (lines : List (List ℕ)) (s0 : EngineState) (i : ℕ) (line : List ℕ) (lane : ℕ) (call : Call) (old new : SessionView) (place : ℕ) → IsGoing lines s0 i old → slice_get lines i ≡ Some line → form 1 line ≡ Ok (lane, call) → RanCall (i + 1) call old new place
     → IsGoing lines s0 (i + 1) new
 going_call lines s0 i line lane call old new place h at read ran =
     let e = ran.entry in
     let built : is_built e.call ≡ true = rw ran.is_due.call_is (form-IsCall 1 lane call line (omega arith) read).built in
     let events : events_of old.tickets ran.entries call ≡ call_events 1 old.tickets (want_of e.call) ran.entries = rw ran.is_due.call_is refl in
-    let log : new.log.items ≡ old.log.items ++ call_events 1 old.tickets (want_of e.call) ran.entries = ran.log ∙ ap (λ more. old.log.items ++ more) events in
+    let log : new.log ≡ old.log ++ call_events 1 old.tickets (want_of e.call) ran.entries = ran.log ∙ ap (λ more. old.log ++ more) events in
     let from : IsNotPrepare e.from = rw ran.is_due.from_is tt in
     let one = one_call 1 old.tickets old.state ran.entries e ran.alone (ran.is_due.licensed, ran.is_due.replied, tt) (from, λ short. absurd (built-not_short old.state e.call built short)) in
-    let due : HistoryFrom (lock_run start (moves_of old.log.items)) (replay s0 old.log.items) (call_events 1 old.tickets (want_of e.call) ran.entries) = rw (h.lock, h.state) one in
+    let due : HistoryFrom (lock_run start (moves_of old.log)) (replay s0 old.log) (call_events 1 old.tickets (want_of e.call) ran.entries) = rw (h.lock, h.state) one in
     let line_call : IsLineCall 1 lines (i + 1) lane e.call = record { place = i; numbered = refl; line = line; at = at; read = rw ran.is_due.call_is read } in
     record {
-      history = subst (History s0) (sym log) (history-append start s0 old.log.items _ h.history due);
-      lock = ap (λ l. lock_run start (moves_of l)) log ∙ lock_run-append start old.log.items _ ∙ ap (λ (l : Lock). lock_run l (moves_of (call_events 1 old.tickets (want_of e.call) ran.entries))) h.lock ∙ one_call-idle 1 old.tickets ran.entries (want_of e.call) ∙ ap idle (sym ran.tickets);
-      state = ap (replay s0) log ∙ replay-append s0 old.log.items _ ∙ ap (λ s. replay s (call_events 1 old.tickets (want_of e.call) ran.entries)) h.state ∙ one_call-state 1 old.tickets old.state ran.entries e (want_of e.call) ran.alone ∙ sym ran.state;
+      history = subst (History s0) (sym log) (history-append start s0 old.log _ h.history due);
+      lock = ap (λ l. lock_run start (moves_of l)) log ∙ lock_run-append start old.log _ ∙ ap (λ (l : Lock). lock_run l (moves_of (call_events 1 old.tickets (want_of e.call) ran.entries))) h.lock ∙ one_call-idle 1 old.tickets ran.entries (want_of e.call) ∙ ap idle (sym ran.tickets);
+      state = ap (replay s0) log ∙ replay-append s0 old.log _ ∙ ap (λ s. replay s (call_events 1 old.tickets (want_of e.call) ran.entries)) h.state ∙ one_call-state 1 old.tickets old.state ran.entries e (want_of e.call) ran.alone ∙ sym ran.state;
       valid = subst IsValid (sym ran.state) (step-IsValid old.state e.call e.env h.valid);
       few = omega (arith, ran.tickets, h.few);
-      laned = rw (log, ran.tickets) (laned_call lines i old.tickets old.log.items (want_of e.call) ran.entries e ran.alone ran.is_due.from_is lane line_call h.laned);
+      laned = rw (log, ran.tickets) (laned_call lines i old.tickets old.log (want_of e.call) ran.entries e ran.alone ran.is_due.from_is lane line_call h.laned);
     }
 
-pub going_more : (lines : List (List ℕ)) (s0 : EngineState) (i : ℕ) (line : List ℕ) (old new : Session) (answer : Answer) → IsGoing lines s0 i old → slice_get lines i ≡ Some line → Answered 1 (i + 1) line old new answer → IsGoing lines s0 (i + 1) new
+pub going_more : (lines : List (List ℕ)) (s0 : EngineState) (i : ℕ) (line : List ℕ) (old new : SessionView) (answer : Answer) → IsGoing lines s0 i old → slice_get lines i ≡ Some line → Answered 1 (i + 1) line old new answer → IsGoing lines s0 (i + 1) new
 going_more lines s0 i line old new (Ran place) h at g = going_call lines s0 i line g.0 g.1 old new place h at g.2 g.3
 going_more lines s0 i line old new (Fault fault) h at g = going_skip lines s0 i old new h g.1
 going_more lines s0 i line old new Refused h at g = going_skip lines s0 i old new h g.3
 
 -- no line after i has an entry
-none_yet : (lines : List (List ℕ)) (s0 : EngineState) (i m : ℕ) (old : Session) → IsGoing lines s0 i old → i < m → entry_of m (entries_of old.log.items) ≡ None
-none_yet lines s0 i m old h lt = none_from m (entries_of old.log.items) (h.laned.later m lt)
+none_yet : (lines : List (List ℕ)) (s0 : EngineState) (i m : ℕ) (old : SessionView) → IsGoing lines s0 i old → i < m → entry_of m (entries_of old.log) ≡ None
+none_yet lines s0 i m old h lt = none_from m (entries_of old.log) (h.laned.later m lt)
 
 alone_found : (n : ℕ) (e : Entry) (b : Bool) → is_from n e ≡ b → entry_of n (e ∷ []) ≡ cond b (Some e) None
 alone_found n e b h = ap (λ (x : Bool). cond x (Some e) None) h
@@ -134,19 +134,19 @@ module _ (i : ℕ) (log : List Event) (ticket : ℕ) (entries : Roomy Entry) (e 
   keeps_answer n line (Fault fault) low h = (h.0, none_still n low h.1)
   keeps_answer n line Refused low h = (h.0, h.1, h.2, none_still n low h.3)
 
-logged : (n : ℕ) (call : Call) (old new : Session) (place : ℕ) (ran : RanCall n call old new place) → new.log.items ≡ old.log.items ++ call_events 1 old.tickets (want_of ran.entry.call) ran.entries
+logged : (n : ℕ) (call : Call) (old new : SessionView) (place : ℕ) (ran : RanCall n call old new place) → new.log ≡ old.log ++ call_events 1 old.tickets (want_of ran.entry.call) ran.entries
 logged n call old new place ran =
     let events : events_of old.tickets ran.entries call ≡ call_events 1 old.tickets (want_of ran.entry.call) ran.entries = rw ran.is_due.call_is refl in
-    ran.log ∙ ap (λ more. old.log.items ++ more) events
+    ran.log ∙ ap (λ more. old.log ++ more) events
 
-keeps_one : (i n : ℕ) (line l : List ℕ) (old new : Session) (answer a : Answer) → Answered 1 (i + 1) line old new answer → n ≤ i → IsAnswer 1 n l old.log.items a → IsAnswer 1 n l new.log.items a
+keeps_one : (i n : ℕ) (line l : List ℕ) (old new : SessionView) (answer a : Answer) → Answered 1 (i + 1) line old new answer → n ≤ i → IsAnswer 1 n l old.log a → IsAnswer 1 n l new.log a
 keeps_one i n line l old new (Ran place) a g low h =
     let ran = g.3 in
-    subst (λ (log : List Event). IsAnswer 1 n l log a) (sym (logged (i + 1) g.1 old new place ran)) (keeps_answer i old.log.items old.tickets ran.entries ran.entry ran.alone ran.is_due.from_is n l a low h)
+    subst (λ (log : List Event). IsAnswer 1 n l log a) (sym (logged (i + 1) g.1 old new place ran)) (keeps_answer i old.log old.tickets ran.entries ran.entry ran.alone ran.is_due.from_is n l a low h)
 keeps_one i n line l old new (Fault fault) a g low h = subst (λ (log : List Event). IsAnswer 1 n l log a) (sym g.1.log) h
 keeps_one i n line l old new Refused a g low h = subst (λ (log : List Event). IsAnswer 1 n l log a) (sym g.3.log) h
 
-own_answer : (i : ℕ) (line : List ℕ) (old new : Session) (answer : Answer) → entry_of (i + 1) (entries_of old.log.items) ≡ None → Answered 1 (i + 1) line old new answer → IsAnswer 1 (i + 1) line new.log.items answer
+own_answer : (i : ℕ) (line : List ℕ) (old new : SessionView) (answer : Answer) → entry_of (i + 1) (entries_of old.log) ≡ None → Answered 1 (i + 1) line old new answer → IsAnswer 1 (i + 1) line new.log answer
 own_answer i line old new (Ran place) none g =
     let ran = g.3 in
     let log = logged (i + 1) g.1 old new place ran in
@@ -155,9 +155,9 @@ own_answer i line old new (Ran place) none g =
       ticket = old.tickets;
       entries = ran.entries;
       entry = ran.entry;
-      at = ap (λ (l : List Event). slice_get l place) log ∙ at_back old.log.items (call_events 1 old.tickets (want_of ran.entry.call) ran.entries) place 2 ran.released;
+      at = ap (λ (l : List Event). slice_get l place) log ∙ at_back old.log (call_events 1 old.tickets (want_of ran.entry.call) ran.entries) place 2 ran.released;
       alone = ran.alone;
-      found = ap (λ (l : List Event). entry_of (i + 1) (entries_of l)) log ∙ found_now i old.log.items old.tickets ran.entries ran.entry ran.alone ran.is_due.from_is none;
+      found = ap (λ (l : List Event). entry_of (i + 1) (entries_of l)) log ∙ found_now i old.log old.tickets ran.entries ran.entry ran.alone ran.is_due.from_is none;
     }
 own_answer i line old new (Fault fault) none g = (g.0, ap (λ (l : List Event). entry_of (i + 1) (entries_of l)) g.1.log ∙ none)
 own_answer i line old new Refused none g = (g.0, g.1, g.2, ap (λ (l : List Event). entry_of (i + 1) (entries_of l)) g.3.log ∙ none)
@@ -169,11 +169,11 @@ one_answer answer a (suc j) h = absurd cc
 same_line : (lines : List (List ℕ)) (i j : ℕ) (line l : List ℕ) → j ≡ i → slice_get lines i ≡ Some line → slice_get lines j ≡ Some l → line ≡ l
 same_line lines i j line l e g h = let at : slice_get lines i ≡ Some l = subst (λ (x : ℕ). slice_get lines x ≡ Some l) e h in let both : Some line ≡ Some l = sym g ∙ at in cc
 
-pub answer_more : (lines : List (List ℕ)) (s0 : EngineState) (i : ℕ) (line : List ℕ) (old new : Session) (answer : Answer) (answers : List Answer) → IsGoing lines s0 i old → slice_get lines i ≡ Some line → Answered 1 (i + 1) line old new answer
-    → length answers ≡ i → AreAnswers 1 lines old.log.items answers → AreAnswers 1 lines new.log.items (answers ++ answer ∷ [])
+pub answer_more : (lines : List (List ℕ)) (s0 : EngineState) (i : ℕ) (line : List ℕ) (old new : SessionView) (answer : Answer) (answers : List Answer) → IsGoing lines s0 i old → slice_get lines i ≡ Some line → Answered 1 (i + 1) line old new answer
+    → length answers ≡ i → AreAnswers 1 lines old.log answers → AreAnswers 1 lines new.log (answers ++ answer ∷ [])
 answer_more lines s0 i line old new answer answers h at g len all j l a lj aj = cases (at_append answers (answer ∷ []) j a aj)
   where
-    cases : (slice_get answers j ≡ Some a) ⊎ ((k : ℕ) × (j ≡ length answers + k) × (slice_get (answer ∷ []) k ≡ Some a)) → IsAnswer 1 (j + 1) l new.log.items a
+    cases : (slice_get answers j ≡ Some a) ⊎ ((k : ℕ) × (j ≡ length answers + k) × (slice_get (answer ∷ []) k ≡ Some a)) → IsAnswer 1 (j + 1) l new.log a
     cases (inl old_at) =
         let within = slice_get_within answers j a old_at in
         keeps_one i (j + 1) line l old new answer a g (omega (arith, within, len)) (all j l a lj old_at)
@@ -182,6 +182,6 @@ answer_more lines s0 i line old new answer answers h at g len all j l a lj aj = 
         let here : j ≡ i = omega (arith, o.1, len, last.0) in
         let own = own_answer i line old new answer (none_yet lines s0 i (i + 1) old h (omega arith)) g in
         let number : i + 1 ≡ j + 1 = omega (arith, here) in
-        subst (λ (n : ℕ). IsAnswer 1 n l new.log.items a) number
-        (subst (λ (x : Answer). IsAnswer 1 (i + 1) l new.log.items x) last.1
-        (subst (λ (x : List ℕ). IsAnswer 1 (i + 1) x new.log.items answer) (same_line lines i j line l here at lj) own))
+        subst (λ (n : ℕ). IsAnswer 1 n l new.log a) number
+        (subst (λ (x : Answer). IsAnswer 1 (i + 1) l new.log x) last.1
+        (subst (λ (x : List ℕ). IsAnswer 1 (i + 1) x new.log answer) (same_line lines i j line l here at lj) own))

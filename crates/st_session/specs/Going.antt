@@ -10,7 +10,7 @@ use Rattle.st_model.specs.declared.entry.Origin.TheVariants.{Line}
 use Rattle.st_model.specs.declared.state.EngineState.{EngineState}
 use Rattle.st_history.specs.History.{moves_of, replay, History, idle}
 use Rattle.st_model.specs.Valid.{IsValid}
-use Rattle.st_session.specs.declared.session.Session.{Session}
+use Rattle.st_session.specs.View.{SessionView}
 use Rattle.st_session.specs.Entries.{entries_of, count_from, StandsAt}
 use Rattle.st_session.specs.LaneOrder.{IsLineCall, IsOfLine}
 
@@ -33,10 +33,10 @@ pub record IsLaned (lines : List (List ℕ)) (i k : ℕ) (log : List Event) : Ty
   pub order : (a b p s u t v m n c d : ℕ) (e f : Entry) (want : Want) → IsOfLine 1 lines log a s t m c e → IsOfLine 1 lines log b u v n d f → m < n → slice_get log p ≡ Some (Arrive u v want) → a < p
 
 -- what holds after i lines
-pub record IsGoing (lines : List (List ℕ)) (s0 : EngineState) (i : ℕ) (session : Session) : Type 0 where
-  pub history : History s0 session.log.items
-  pub lock : lock_run start (moves_of session.log.items) ≡ idle session.tickets
-  pub state : replay s0 session.log.items ≡ session.state
+pub record IsGoing (lines : List (List ℕ)) (s0 : EngineState) (i : ℕ) (session : SessionView) : Type 0 where
+  pub history : History s0 session.log
+  pub lock : lock_run start (moves_of session.log) ≡ idle session.tickets
+  pub state : replay s0 session.log ≡ session.state
   pub valid : IsValid session.state
   pub few : session.tickets ≤ i
-  pub laned : IsLaned lines i session.tickets session.log.items
+  pub laned : IsLaned lines i session.tickets session.log

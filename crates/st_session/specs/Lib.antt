@@ -7,3 +7,4 @@ pub mod Out
 pub mod Printing
 pub mod Running
 pub mod Statuses
+pub mod View

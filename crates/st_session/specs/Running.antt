@@ -13,7 +13,7 @@ use Rattle.st_calls.specs.Form.{form}
 use Rattle.st_session.specs.Entries.{entries_of, entry_of}
 use Rattle.st_session.specs.declared.session.Answer.{Answer}
 use Rattle.st_session.specs.declared.session.Answer.TheVariants.{Ran, Fault, Refused}
-use Rattle.st_session.specs.declared.session.Session.{Session}
+use Rattle.st_session.specs.View.{SessionView}
 
 -- the entry of line n's call, as the engine answers it in this state
 pub record IsEntryOf (s : EngineState) (n : ℕ) (call : Call) (e : Entry) : Type 0 where
@@ -27,24 +27,24 @@ abbrev pub events_of : ℕ → Roomy Entry → Call → List Event
 events_of ticket entries call = Arrive 1 ticket (want_of call) ∷ Grant 1 ticket ∷ Release 1 ticket entries ∷ []
 
 -- the session ran the call of line n
-pub record RanCall (n : ℕ) (call : Call) (old new : Session) (place : ℕ) : Type 0 where
+pub record RanCall (n : ℕ) (call : Call) (old new : SessionView) (place : ℕ) : Type 0 where
   pub entry : Entry
   pub entries : Roomy Entry
   pub alone : entries.items ≡ entry ∷ []
   pub is_due : IsEntryOf old.state n call entry
   pub state : new.state ≡ (step old.state entry.call entry.env).1
-  pub log : new.log.items ≡ old.log.items ++ events_of old.tickets entries call
+  pub log : new.log ≡ old.log ++ events_of old.tickets entries call
   pub tickets : new.tickets ≡ old.tickets + 1
-  pub released : place ≡ length old.log.items + 2
+  pub released : place ≡ length old.log + 2
 
 -- nothing ran
-pub record Stayed (old new : Session) : Type 0 where
+pub record Stayed (old new : SessionView) : Type 0 where
   pub state : new.state ≡ old.state
-  pub log : new.log.items ≡ old.log.items
+  pub log : new.log ≡ old.log
   pub tickets : new.tickets ≡ old.tickets
 
 -- what became of line n
-abbrev pub Answered : ℕ → ℕ → List ℕ → Session → Session → Answer → Type 0
+abbrev pub Answered : ℕ → ℕ → List ℕ → SessionView → SessionView → Answer → Type 0
 Answered lanes n line old new (Ran place) = (lane : ℕ) × (call : Call) × (form lanes line ≡ Ok (lane, call)) × RanCall n call old new place
 Answered lanes n line old new (Fault fault) = (form lanes line ≡ Err fault) × Stayed old new
 Answered lanes n line old new Refused = (lane : ℕ) × (call : Call) × (form lanes line ≡ Ok (lane, call)) × Stayed old new

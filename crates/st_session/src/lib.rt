@@ -4,6 +4,7 @@
 mod lines;
 mod opening;
 mod output;
+mod part;
 mod run;
 mod session;
 mod top;

@@ -16,11 +16,11 @@ pub(crate) fn run_lines<G: Gate>(
     session: &mut Session,
     lines: &Lines,
 ) -> Result<ItemList<Answer>, NoMemory>
-    requires empty { session.old.log.items ≡ [] }
+    requires empty { session.old.log ≡ [] }
     requires no_ticket { session.old.tickets ≡ 0 }
     requires valid { IsValid session.old.state }
     ensures going { (i : ℕ) × IsGoing lines.now session.old.state i session.new }
-    ensures answers { IfOk result (λ answers. AreAnswers 1 lines.now session.new.log.items answers) }
+    ensures answers { IfOk result (λ answers. AreAnswers 1 lines.now session.new.log answers) }
     ensures all { IfOk result (λ answers. length answers ≡ length lines.now) }
 {
     let mut answers = ItemList::make(alloc);

@@ -1,15 +1,17 @@
-ghost use Rattle.std.specs.Prelude.{◌≡◌, ◌<◌, ◌+◌, ◌-◌, ◌^◌, ◌≤◌, true, IfOk, OnErr};
+ghost use Rattle.std.specs.Prelude.{◌≡◌, ◌<◌, ◌+◌, ◌-◌, ◌^◌, ◌≤◌, [], true, IfOk, OnErr};
 ghost use Rattle.st_model.specs.Valid.{IsValid};
 ghost use Rattle.st_calls.specs.Form.{form};
 
+use crate::part::{Ran, run_on};
+use st_book::Book;
 use st_calls::{LineFault, read_call};
-use st_history::{Event, Log};
-use st_model::{
-    Call, EngineState, Entry, EntryList, Env, Gate, Origin, Reply, step, want_of,
-};
-use st_units::{Cause, NoMemory};
-use st_wants::Want;
+use st_history::Log;
+use st_model::{Call, EngineState, EntryList, Gate, want_of};
+use st_plain::{PlainCell, PlainTable};
+use st_units::NoMemory;
 use std::alloc::Global;
+use std::marker::Model;
+use std::snapshot::Snapshot;
 
 /// How many lanes there are.
 pub(crate) const LANES: u8 = 1;
@@ -28,95 +30,79 @@ pub enum Answer {
     Refused,
 }
 
-/// The engine with its log.
-#[derive(Drop)]
+/// One seat over a book that is at home between two calls.
 pub struct Session {
-    pub state: EngineState,
-    pub log: Log,
-    /// How many tickets were drawn.
-    pub tickets: u64,
+    book: Book<PlainCell, PlainTable>,
+    /// The state that the book began with, for what the session stands for.
+    opening: Snapshot<EngineState>,
 }
 
-/// What a call needs before it arrives.
-struct Ready {
-    want: Want,
-    entries: EntryList,
+impl Model for Session {
+    ghost use Rattle.st_history.specs.History.{replay};
+    ghost use Rattle.st_session.specs.View.{SessionView, IsStanding};
+
+    ghost Value = { SessionView };
+
+    ghost view = { λ s. record { state = replay s.opening.value s.book.log; log = s.book.log; tickets = s.book.lock.next } };
+
+    ghost invariant = { λ s. IsStanding s.opening.value s.book };
 }
 
 impl Session {
-    ghost use Rattle.std.specs.Prelude.{[], OnOk};
-    ghost use Rattle.st_model.specs.Step.{step, is_built};
-    ghost use Rattle.st_model.specs.Wanted.{want_of};
-    ghost use Rattle.st_session.specs.Running.{IsEntryOf, RanCall, Stayed, Answered};
+    ghost use Rattle.std.specs.Prelude.{OnOk};
+    ghost use Rattle.st_model.specs.Step.{is_built};
+    ghost use Rattle.st_session.specs.Running.{RanCall, Stayed, Answered};
 
-    /// Takes the memory that the call needs until its release.
-    fn prepare(&mut self, alloc: Global, call: &Call) -> Result<Ready, NoMemory>
-        ensures want { IfOk result (λ ready. ready.want ≡ want_of call.now) }
-        ensures entries { IfOk result (λ ready. (ready.entries.items ≡ []) × (1 ≤ ready.entries.room)) }
-        ensures room { OnOk result (3 ≤ self.new.log.room) }
-        ensures stayed { Stayed self.old self.new }
+    /// A session that begins in this state, which has no pool.
+    pub(crate) fn begin(alloc: Global, state: EngineState) -> Result<Session, NoMemory>
+        requires valid { IsValid state }
+        requires blank { state ≡ record { pools = []; devices = state.devices; next = 1 } }
+        ensures state { IfOk result (λ session. session.state ≡ state) }
+        ensures log { IfOk result (λ session. session.log ≡ []) }
+        ensures tickets { IfOk result (λ session. session.tickets ≡ 0) }
     {
-        let want = want_of(call)?;
-        let mut entries = EntryList::make(alloc);
-        entries.reserve(1)?;
-        self.log.reserve(3)?;
-        Ok(Ready { want, entries })
-    }
-
-    /// Runs the call, and tells what it met: nothing, or want of memory.
-    fn entry(&mut self, alloc: Global, number: u64, call: Call) -> Entry
-        requires valid { IsValid self.old.state }
-        requires built { is_built call ≡ true }
-        ensures is_due { IsEntryOf self.old.state number call result }
-        ensures state { self.new.state ≡ (step self.old.state result.call result.env).1 }
-        ensures log { self.new.log ≡ self.old.log }
-        ensures tickets { self.new.tickets ≡ self.old.tickets }
-    {
-        let from = Origin::Line(number);
-        match step(&mut self.state, alloc, &call, &Env::Plain) {
-            Ok(reply) => Entry {
-                call,
-                env: Env::Plain,
-                from,
-                reply,
-            },
-            Err(NoMemory) => Entry {
-                call,
-                env: Env::NoMem,
-                from,
-                reply: Reply::refused(Cause::OutOfMemory),
-            },
+        let opening = Snapshot::of(&state);
+        let EngineState {
+            pools: _,
+            devices,
+            next: _,
+        } = state;
+        let table = PlainTable::opening(alloc, devices)?;
+        match Book::make(alloc, table) {
+            Ok(book) => Ok(Session { book, opening }),
+            Err((_table, refused)) => Err(refused),
         }
     }
 
     /// Runs the call under a grant of its own, from its arrival to its release, whose place in
-    /// the log is the result. No other ticket is out, so nothing keeps it back.
+    /// the log is the result. No other ticket is out, so nothing keeps it back. Refused where the
+    /// memory isn't there that it takes before it arrives.
     fn run_call<G: Gate>(
         &mut self,
         alloc: Global,
         gate: &G,
         number: u64,
         call: Call,
-        ready: Ready,
-    ) -> usize
-        requires valid { IsValid self.old.state }
-        requires built { is_built call ≡ true }
-        requires few { self.old.tickets < 2 ^ 64 - 1 }
-        requires want { ready.want ≡ want_of call }
-        requires entries { (ready.entries.items ≡ []) × (1 ≤ ready.entries.room) }
-        requires room { 3 ≤ self.old.log.room }
-        ensures { RanCall number call self.old self.new result }
+    ) -> Result<usize, NoMemory>
+        requires { is_built call ≡ true }
+        ensures ran { IfOk result (λ place. RanCall number call self.old self.new place) }
+        ensures refused { OnErr result (self.new ≡ self.old) }
     {
-        let ticket = self.tickets;
-        self.tickets += 1;
-        let Ready { want, mut entries } = ready;
-        self.log.put(Event::Arrive(SEAT, ticket, want));
-        self.log.put(Event::Grant(SEAT, ticket));
+        let want = want_of(&call)?;
+        let mut entries = EntryList::with_room(alloc, 1)?;
+        let ticket = match self.book.arrive(alloc, SEAT, want) {
+            Ok(ticket) => ticket,
+            Err((_want, refused)) => return Err(refused),
+        };
+        let Ok(part) = self.book.grant(ticket) else {
+            unreachable!()
+        };
         gate.pass(number);
-        entries.put(self.entry(alloc, number, call));
-        let place = self.log.len();
-        self.log.put(Event::Release(SEAT, ticket, entries));
-        place
+        let Ran { part, entry } = run_on(alloc, number, call, part);
+        entries.put(entry);
+        let place = self.book.log().len();
+        self.book.release(ticket, part, entries);
+        Ok(place)
     }
 
     /// Runs the call that the line is, where it is one.
@@ -127,19 +113,28 @@ impl Session {
         number: u64,
         line: &[u8],
     ) -> Result<Answer, NoMemory>
-        requires valid { IsValid self.old.state }
-        requires few { self.old.tickets < 2 ^ 64 - 1 }
         ensures answered { IfOk result (λ answer. Answered LANES number line.now self.old self.new answer) }
-        ensures refused { OnErr result (Stayed self.old self.new) }
+        ensures refused { OnErr result (self.new ≡ self.old) }
     {
         let (_lane, call) = match read_call(alloc, line, LANES) {
             Ok(read) => read,
             Err(LineFault::OutOfMemory) => return Err(NoMemory),
             Err(fault) => return Ok(Answer::Fault(fault)),
         };
-        match self.prepare(alloc, &call) {
-            Ok(ready) => Ok(Answer::Ran(self.run_call(alloc, gate, number, call, ready))),
+        match self.run_call(alloc, gate, number, call) {
+            Ok(place) => Ok(Answer::Ran(place)),
             Err(NoMemory) => Ok(Answer::Refused),
+        }
+    }
+
+    /// The log, when all lines have run.
+    pub(crate) fn close(self) -> Log
+        ensures { result.items ≡ self.log }
+    {
+        let Session { book, opening: _ } = self;
+        match book.close() {
+            Ok((_table, _cells, log)) => log,
+            Err(_) => unreachable!(),
         }
     }
 }

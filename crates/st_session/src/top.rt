@@ -79,17 +79,11 @@ fn run_input<K: Sink, R: Rack, G: Gate>(
     let Ok(state) = opening(alloc, &rack) else {
         return Outcome::early(alloc, Status::OutOfMemory, rack);
     };
-    let mut session = Session {
-        state,
-        log: Log::make(alloc),
-        tickets: 0,
+    let Ok(mut session) = Session::begin(alloc, state) else {
+        return Outcome::early(alloc, Status::OutOfMemory, rack);
     };
     let ran = run_lines(alloc, gate, &mut session, lines);
-    let Session {
-        state: _state,
-        log,
-        tickets: _,
-    } = session;
+    let log = session.close();
     let Ok(answers) = ran else {
         return Outcome {
             status: Status::OutOfMemory,

@@ -6,5 +6,5 @@ use Rattle.st_session.proofs.lines.run_lines.Given as goal
 abbrev pub invariant-loop-i : goal.invariant-loop-i
 invariant-loop-i g l =
     IsGoing l.lines l.fn.session.state l.i l.session
-    × AreAnswers 1 l.lines l.session.log.items l.answers
+    × AreAnswers 1 l.lines l.session.log l.answers
     × (length l.answers ≡ l.i)

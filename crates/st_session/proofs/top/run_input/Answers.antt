@@ -12,12 +12,12 @@ run_lines-ran-requires-clause-valid g c = rw c.in-Ok.ensures.state (opening-IsVa
 
 pub written-status-requires : goal.written-status-requires
 written-status-requires g c =
-    let same = answers_same c.args.lines.now c.run_lines-ran.new.session.log.items c.in-Ok-ran.answers c.in-Ok-ran.ensures.all c.in-Ok-ran.ensures.answers in
+    let same = answers_same c.args.lines.now c.run_lines-ran.new.session.log c.in-Ok-ran.answers c.in-Ok-ran.ensures.all c.in-Ok-ran.ensures.answers in
     rw c.items.ensures same.shown
 
 pub returns-clause-done : goal.returns-clause-done
 returns-clause-done g c =
-    let log = c.run_lines-ran.new.session.log.items in
+    let log = c.run_lines-ran.new.session.log in
     let same = answers_same c.args.lines.now log c.in-Ok-ran.answers c.in-Ok-ran.ensures.all c.in-Ok-ran.ensures.answers in
     let text : whole c.args.trace log c.items.result.now ≡ out 1 c.args.trace c.args.lines.now log
     = ap (whole c.args.trace log) c.items.ensures ∙ whole-out c.args.trace c.args.lines.now log c.in-Ok-ran.answers c.in-Ok-ran.ensures.all same in
@@ -29,7 +29,7 @@ returns-clause-done g c =
 
 pub returns-clause-cut : goal.returns-clause-cut
 returns-clause-cut g c =
-    let log = c.run_lines-ran.new.session.log.items in
+    let log = c.run_lines-ran.new.session.log in
     let same = answers_same c.args.lines.now log c.in-Ok-ran.answers c.in-Ok-ran.ensures.all c.in-Ok-ran.ensures.answers in
     let text : whole c.args.trace log c.items.result.now ≡ out 1 c.args.trace c.args.lines.now log
     = ap (whole c.args.trace log) c.items.ensures ∙ whole-out c.args.trace c.args.lines.now log c.in-Ok-ran.answers c.in-Ok-ran.ensures.all same in
@@ -41,7 +41,7 @@ returns-clause-cut g c =
 
 pub returns-clause-memory : goal.returns-clause-memory
 returns-clause-memory g c =
-    let log = c.run_lines-ran.new.session.log.items in
+    let log = c.run_lines-ran.new.session.log in
     let same = answers_same c.args.lines.now log c.in-Ok-ran.answers c.in-Ok-ran.ensures.all c.in-Ok-ran.ensures.answers in
     let text : whole c.args.trace log c.items.result.now ≡ out 1 c.args.trace c.args.lines.now log
     = ap (whole c.args.trace log) c.items.ensures ∙ whole-out c.args.trace c.args.lines.now log c.in-Ok-ran.answers c.in-Ok-ran.ensures.all same in
