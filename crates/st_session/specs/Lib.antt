@@ -2,6 +2,7 @@ pub mod Entries
 pub mod Going
 pub mod Headline
 pub mod LaneOrder
+pub mod OnPart
 pub mod Opening
 pub mod Out
 pub mod Printing
