@@ -7,5 +7,6 @@ pub mod KeptFlights
 pub mod Lists
 pub mod Local
 pub mod NewPool
+pub mod OnTable
 pub mod ValidCreate
 pub mod Validity

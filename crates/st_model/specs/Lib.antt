@@ -1,6 +1,7 @@
 pub mod Answer
 pub mod Laws
 pub mod Look
+pub mod OnTable
 pub mod Parts
 pub mod Step
 pub mod Sums

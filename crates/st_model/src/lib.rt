@@ -13,6 +13,7 @@ mod number_map;
 mod reply;
 mod state;
 mod steps;
+mod table;
 mod wanted;
 
 pub use answer::code_of;
@@ -27,5 +28,7 @@ pub use meaning::{Board, Cell, Named};
 pub use number_map::NumberMap;
 pub use reply::{Given, Identity, NewFs, Reply};
 pub use state::{CacheState, EngineState, FsState, KnownPool, PoolMode, PoolState, TableState};
+pub use steps::engine_state_report::{insert_info, shared_info};
 pub use steps::step;
+pub use table::distinct_paths;
 pub use wanted::want_of;

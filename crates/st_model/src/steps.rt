@@ -1,5 +1,5 @@
-mod create_pool;
-mod engine_state_report;
+pub(crate) mod create_pool;
+pub(crate) mod engine_state_report;
 
 ghost use Rattle.std.specs.Prelude.{◌≡◌, ◌≤◌, IfOk, OnErr, unwrap_or};
 ghost use Rattle.std.specs.List.{AllByRecursion};

@@ -19,10 +19,10 @@ use std::alloc::Global;
 const LEAST_SECTORS: u64 = 8192;
 
 /// How many devices a pool may have.
-const MOST_DEVICES: usize = 16;
+pub(crate) const MOST_DEVICES: usize = 16;
 
 /// How many pools may be known.
-const MOST_POOLS: usize = 16;
+pub(crate) const MOST_POOLS: usize = 16;
 
 fn sectors_of(rows: &[DevRow], path: &DevPath) -> u64
     ensures { result ≡ sectors_of path.now rows.now }
@@ -53,7 +53,11 @@ fn data_paths(alloc: Global, rows: &[DevRow]) -> Result<DevList, NoMemory>
     Ok(list)
 }
 
-fn data_rows(alloc: Global, rows: &[DevRow], paths: &[DevPath]) -> Result<DevRows, NoMemory>
+pub(crate) fn data_rows(
+    alloc: Global,
+    rows: &[DevRow],
+    paths: &[DevPath],
+) -> Result<DevRows, NoMemory>
     ensures { IfOk result (λ list. list ≡ data_rows rows.now paths.now) }
 {
     let mut list = DevRows::make(alloc);
@@ -91,7 +95,7 @@ fn is_made(
     Ok(look::is_up(&pool.mode) && look::is_called(pool, name) && same_set(own.items(), paths))
 }
 
-fn held(
+pub(crate) fn held(
     alloc: Global,
     name: &Name,
     paths: &[DevPath],
@@ -121,7 +125,7 @@ fn in_use(paths: &[DevPath], pools: &[PoolState]) -> Result<Option<Reply>, NoMem
     }
 }
 
-fn absent(paths: &[DevPath], rows: &[DevRow]) -> Result<Option<Reply>, NoMemory>
+pub(crate) fn absent(paths: &[DevPath], rows: &[DevRow]) -> Result<Option<Reply>, NoMemory>
     ensures { IfOk result (λ reply. reply ≡ refused_by (option_map NoSuchDevice (first_absent paths.now rows.now))) }
 {
     match look::first_absent(paths, rows) {
@@ -130,7 +134,7 @@ fn absent(paths: &[DevPath], rows: &[DevRow]) -> Result<Option<Reply>, NoMemory>
     }
 }
 
-fn too_small(paths: &[DevPath], rows: &[DevRow]) -> Result<Option<Reply>, NoMemory>
+pub(crate) fn too_small(paths: &[DevPath], rows: &[DevRow]) -> Result<Option<Reply>, NoMemory>
     ensures { IfOk result (λ reply. reply ≡ refused_by (option_map DeviceTooSmall (first_small paths.now rows.now))) }
 {
     match first_small(paths, rows) {
@@ -224,7 +228,7 @@ impl EngineState {
     }
 }
 
-fn new_pool(alloc: Global, serial: PoolSerial, name: Name, devices: DevRows) -> PoolState
+pub(crate) fn new_pool(alloc: Global, serial: PoolSerial, name: Name, devices: DevRows) -> PoolState
     ensures { result ≡ new_pool serial name devices }
 {
     PoolState {

@@ -1,4 +1,4 @@
-ghost use Rattle.std.specs.Prelude.{◌≡◌, ◌≤◌, ◌+◌, ◌*◌, ◌^◌, [], length, IfOk, OnErr, option_map, option_copied, map, filter, take_while};
+ghost use Rattle.std.specs.Prelude.{◌≡◌, ◌≤◌, ◌+◌, ◌*◌, ◌^◌, [], length, IfOk, OnOk, OnErr, insert, option_map, option_copied, map, filter, take_while};
 ghost use Rattle.st_units.specs.declared.rows.DevRow.{DevRow};
 ghost use Rattle.std.specs.List.{AllByRecursion};
 ghost use Rattle.st_model.specs.declared.state.PoolState.{PoolState};
@@ -110,7 +110,8 @@ fn pool_info(alloc: Global, pool: &PoolState) -> Result<PoolInfo, NoMemory>
     })
 }
 
-fn shared_info(alloc: Global, pool: &PoolState) -> Result<Shared<PoolInfo>, NoMemory>
+/// What a report shows of the pool.
+pub fn shared_info(alloc: Global, pool: &PoolState) -> Result<Shared<PoolInfo>, NoMemory>
     requires { AreSmall pool.now.devices }
     ensures { IfOk result (λ info. info ≡ pool_info pool.now) }
 {
@@ -130,6 +131,16 @@ fn place_of(infos: &[Shared<PoolInfo>], name: &Name) -> usize
         .count()
 }
 
+/// Puts the info behind all those of lower names.
+pub fn insert_info(list: &mut Infos<PoolInfo>, info: Shared<PoolInfo>) -> Result<(), NoMemory>
+    ensures ok { OnOk result (list.new ≡ insert list.old (place_among list.old info.name) info) }
+    ensures err { OnErr result (list.new ≡ list.old) }
+{
+    let place = place_of(list.items(), &info.value().name);
+    list.insert(place, info)
+}
+
+#[tactic(auto, unfolding(crate::specs::steps::EngineStateReport::pool_info))]
 fn started_infos(alloc: Global, pools: &[PoolState]) -> Result<Infos<PoolInfo>, NoMemory>
     requires { AllByRecursion (λ (pool : PoolState). AreSmall pool.devices) pools.now }
     ensures { IfOk result (λ list. list ≡ infos_with [] (started_pools pools.now)) }
@@ -137,9 +148,7 @@ fn started_infos(alloc: Global, pools: &[PoolState]) -> Result<Infos<PoolInfo>, 
     let mut list: Infos<PoolInfo> = Infos::make(alloc);
     for pool in pools {
         if look::is_started(&pool.mode) {
-            let info = shared_info(alloc, pool)?;
-            let place = place_of(list.items(), &pool.name);
-            list.insert(place, info)?;
+            insert_info(&mut list, shared_info(alloc, pool)?)?;
         }
     }
     Ok(list)
@@ -165,6 +174,15 @@ fn stopped_place(rows: &[StoppedRow], name: &Name) -> usize
         .count()
 }
 
+/// Puts the pool's row behind all those of lower names.
+pub(crate) fn insert_stopped(list: &mut StoppedList, pool: &PoolState) -> Result<(), NoMemory>
+    ensures ok { OnOk result (list.new ≡ insert list.old (place_among_stopped list.old pool.now.name) (stopped_row pool.now)) }
+    ensures err { OnErr result (list.new ≡ list.old) }
+{
+    let place = stopped_place(list.items(), &pool.name);
+    list.insert(place, stopped_row(pool)?)
+}
+
 fn stopped_rows(alloc: Global, pools: &[PoolState]) -> Result<StoppedList, NoMemory>
     ensures { IfOk result (λ list. list ≡ stopped_with [] (halted_pools pools.now)) }
 {
@@ -173,8 +191,7 @@ fn stopped_rows(alloc: Global, pools: &[PoolState]) -> Result<StoppedList, NoMem
         if look::is_started(&pool.mode) {
             continue;
         }
-        let place = stopped_place(list.items(), &pool.name);
-        list.insert(place, stopped_row(pool)?)?;
+        insert_stopped(&mut list, pool)?;
     }
     Ok(list)
 }
