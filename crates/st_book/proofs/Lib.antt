@@ -1,3 +1,5 @@
 pub mod Named
 pub mod Pools
 pub mod AtHome
+pub mod Lending
+pub mod Standing
