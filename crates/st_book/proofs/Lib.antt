@@ -3,3 +3,5 @@ pub mod Pools
 pub mod AtHome
 pub mod Lending
 pub mod Standing
+pub mod Returned
+pub mod Renewing
