@@ -5,3 +5,4 @@ pub mod Lending
 pub mod Standing
 pub mod Returned
 pub mod Renewing
+pub mod Released
