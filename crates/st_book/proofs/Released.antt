@@ -1,6 +1,6 @@
 -- What a book stands for after a release, and why what comes back fits.
-use Rattle.std.proofs.Common.{ℕ, ◌≡◌, ◌≢◌, ◌+◌, ◌<◌, ◌≤◌, ◌^◌, ◌==◌, Bool, true, false, not, cond, List, [], ◌∷◌, ◌++◌, map, filter, length, Option, refl, ap, sym, ◌∙◌, subst, arith, length-append}
-use Rattle.std.specs.Prelude.{Some as Just, None, IsSomeAnd, IfSome}
+use Rattle.std.proofs.Common.{ℕ, ◌≡◌, ◌≢◌, ◌+◌, ◌<◌, ◌≤◌, ◌^◌, ◌==◌, Bool, true, false, cond, List, [], ◌∷◌, ◌++◌, map, length, Option, refl, ap, sym, ◌∙◌, subst, arith, length-append}
+use Rattle.std.specs.Prelude.{Some as Just, IsSomeAnd, IfSome}
 use Rattle.std.proofs.lemmas.Bool.Decides.{nat_tests}
 use Rattle.st_units.specs.Roomy.{Roomy}
 use Rattle.st_wants.specs.declared.row.LockRow.{LockRow}
@@ -63,20 +63,20 @@ stands_released s base b n t r entries cells held number h at live lock log lent
     let asked : IsSomeAnd (row_at t b.lock.rows) (λ (q : LockRow). IsOf q.want entries.items) = rw at back.of in
     let home = home_back s base b t r entries.items cells held h at live back in
     let idle : IsIdle (rows_without t b.lock.rows) (left_of t b.lent) = λ u k.
-        let cases : (y : Bool) → (t == u) ≡ y → lent_at u (left_of t b.lent) ≡ 0 = elim [
-          | true ↦ (λ e. let same : t ≡ u = grind (arith, nat_tests) in subst (λ z. lent_at z (left_of t b.lent) ≡ 0) same (lent_gone t b.lent))
-          | false ↦ (λ e.
-              let ne : t ≢ u = λ same. let yes : (t == u) ≡ true = grind (arith, nat_tests) in cc in
-              let old : lent_at u b.lent ≡ 0 = h.idle u (λ q qat. k q (row_stays t u b.lock.rows q ne qat)) in
-              let few = lent_fewer t u b.lent in
-              omega arith)
-        ] in
-        cases (t == u) refl in
+    let cases : (y : Bool) → (t == u) ≡ y → lent_at u (left_of t b.lent) ≡ 0 = elim [
+      | true ↦ (λ e. let same : t ≡ u = grind (arith, nat_tests) in subst (λ z. lent_at z (left_of t b.lent) ≡ 0) same (lent_gone t b.lent))
+      | false ↦ (λ e.
+          let ne : t ≢ u = λ same. let yes : (t == u) ≡ true = grind (arith, nat_tests) in cc in
+          let old : lent_at u b.lent ≡ 0 = h.idle u (λ q qat. k q (row_stays t u b.lock.rows q ne qat)) in
+          let few = lent_fewer t u b.lent in
+          omega arith)
+    ] in
+    cases (t == u) refl in
     let counted : length b.log < 2 ^ 62 → failures b.log + failures_of entries.items ≡ n.faults + lent_sum (left_of t b.lent) = λ k.
-        let f : failures b.log ≡ b.faults + lent_sum b.lent = h.faults k in
-        let m = number_is k in
-        let parts = lent_left t b.lent in
-        omega arith in
+    let f : failures b.log ≡ b.faults + lent_sum b.lent = h.faults k in
+    let m = number_is k in
+    let parts = lent_left t b.lent in
+    omega arith in
     stands_after s base b n (Release r.seat t entries) h (record {
       may = alive;
       due = (back.steps, back.one, asked);
@@ -101,9 +101,9 @@ stands_back s base b n t r entries cells held number h at live lock log lent bac
     let shown : InfosShow (state_after now entries.items) (all_renewed cells b.infos) = infos_back r.want now entries.items cells held b.infos no_table back.one back.of back.part h.infos in
     let same : table_of now ≡ table_of (state_after now entries.items) = sym (table_kept r.want now entries.items no_table back.one back.of) in
     stands_released s base b n t r entries cells held number h at live lock log lent back number_is cells_are (table ∙ sym home) faults
-        (subst (λ z. InfosShow (state_after now entries.items) z) (sym infos) shown)
-        (table_info ∙ (h.table_info ∙ ap shown_table same))
-        (subst (λ z. IfSome z (λ (v : TableView). base ≤ v.slack)) (sym table) h.slack)
+    (subst (λ z. InfosShow (state_after now entries.items) z) (sym infos) shown)
+    (table_info ∙ (h.table_info ∙ ap shown_table same))
+    (subst (λ z. IfSome z (λ (v : TableView). base ≤ v.slack)) (sym table) h.slack)
 
 -- only one want takes the table
 is_all : (w : Want) → takes_table w ≡ true → w ≡ All Write
@@ -121,9 +121,9 @@ stands_back_all s base b n t r entries cells v number h at live lock log lent ba
     let home : table_back r.want (Just v) b.table ≡ Just v = ap (λ z. cond z (Just v) b.table) takes in
     let stands : PartStands (All Write) now cells (Just v) = subst (λ w. PartStands w now cells (Just v)) (is_all r.want takes) back.part in
     stands_released s base b n t r entries cells (Just v) number h at live lock log lent back number_is cells_are (table ∙ sym home) faults
-        (subst (λ z. InfosShow now z) (sym infos) (infos_all now cells stands.0 stands.1))
-        (table_info ∙ ap shown_table stands.2)
-        (subst (λ z. IfSome z (λ (w : TableView). base ≤ w.slack)) (sym table) back.slack)
+    (subst (λ z. InfosShow now z) (sym infos) (infos_all now cells stands.0 stands.1))
+    (table_info ∙ ap shown_table stands.2)
+    (subst (λ z. IfSome z (λ (w : TableView). base ≤ w.slack)) (sym table) back.slack)
 
 -- the cells that come back are apart where the table comes with them
 pub back_apart : (s : EngineState) (base : ℕ) (w : Want) (entries : List Entry) (cells : List PoolState) (held : Option TableView) → takes_table w ≡ true → ComesBack w s base entries cells held → PartStands (All Write) (state_after s entries) cells held

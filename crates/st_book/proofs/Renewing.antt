@@ -1,9 +1,8 @@
 -- What the kept infos show once a part is back.
-use Rattle.std.proofs.Common.{ℕ, ◌≡◌, ◌+◌, ◌⊎◌, inl, inr, Bool, true, false, not, cond, List, [], ◌∷◌, ◌++◌, map, Option, refl, ap, sym, ◌∙◌, subst, arith}
+use Rattle.std.proofs.Common.{◌≡◌, ◌+◌, inl, inr, Bool, true, false, not, cond, List, [], ◌∷◌, map, Option, refl, ap, sym, ◌∙◌, subst, arith}
 use Rattle.std.specs.Prelude.{Some as Just, None, option_map}
-use Rattle.std.specs.List.{IsDistinct, sum_by}
+use Rattle.std.specs.List.{IsDistinct}
 use Rattle.std.specs.Str.{bytes_eq}
-use Rattle.std.specs.Cmp.Lexicographic.{nat_list_eq_equiv}
 use Rattle.std.proofs.lemmas.List.Filters.{sum_by-filter_both}
 use Rattle.std.proofs.lemmas.Slice.Eq.{bytes_eq-Decides}
 use Rattle.st_wants.specs.declared.want.Want.{Want}
@@ -19,14 +18,14 @@ use Rattle.st_model.specs.Look.{Text, is_started}
 use Rattle.st_model.specs.Parts.{known, pool_at, started, table_of}
 use Rattle.st_model.specs.steps.EngineStateReport.{pool_info, halted_pools}
 use Rattle.st_history.specs.History.{state_after, AreOneCall, IsOf}
-use Rattle.st_history.proofs.Agreement.{AllWant, entries_of_want, entries_agree}
+use Rattle.st_history.proofs.Agreement.{entries_of_want, entries_agree}
 use Rattle.st_book.specs.Back.{all_renewed}
-use Rattle.st_book.specs.Effects.{info_at, is_info_of, renewed, takes_table}
+use Rattle.st_book.specs.Effects.{info_at, renewed, takes_table}
 use Rattle.st_book.specs.Stands.{AreNamedApart, InfosShow, PartStands}
 use Rattle.st_book.specs.View.{TableView}
-use Rattle.st_book.proofs.Named.{none_and_some, not_found, other_name, flipped, same_found, name_found, count_named, none_counted, counted_none, map_counted, map_found, map_names}
+use Rattle.st_book.proofs.Named.{none_and_some, other_name, flipped, same_found, name_found, count_named, none_counted, counted_none, map_counted, map_found, map_names}
 use Rattle.st_book.proofs.Pools.{name_of}
-use Rattle.st_book.proofs.Returned.{IsBack, is_back, others_stay, table_stays}
+use Rattle.st_book.proofs.Returned.{is_back, others_stay, table_stays}
 
 abbrev info_name_of : PoolInfo → Text
 info_name_of info = info.name
@@ -40,7 +39,7 @@ started_counted : (n : Text) (s t : EngineState) → table_of t ≡ table_of s �
 started_counted n s t same =
     let known_name : KnownPool → Text = λ (k : KnownPool). k.name in
     let count : (z : EngineState) → count_named name_of n (started z) + count_named name_of n (halted_pools z.pools) ≡ count_named name_of n z.pools = λ z.
-        sum_by-filter_both (λ (p : PoolState). is_started p.mode) (λ (p : PoolState). not (is_started p.mode)) (λ p. refl) (λ (p : PoolState). cond (bytes_eq p.name n) 1 0) z.pools in
+    sum_by-filter_both (λ (p : PoolState). is_started p.mode) (λ (p : PoolState). not (is_started p.mode)) (λ p. refl) (λ (p : PoolState). cond (bytes_eq p.name n) 1 0) z.pools in
     let names : (z : EngineState) → count_named known_name n (map known z.pools) ≡ count_named name_of n z.pools = λ z. map_counted name_of known_name known (λ p. refl) n z.pools in
     let a = count s in
     let b = count t in

@@ -1,7 +1,6 @@
 -- What is at home once a part is back.
-use Rattle.std.proofs.Common.{ℕ, ◌≡◌, ◌≢◌, ◌==◌, ◌⊎◌, inl, inr, Bool, true, false, not, ◌||◌, cond, List, [], ◌∷◌, ◌++◌, map, filter, Option, refl, ap, sym, ◌∙◌, subst}
+use Rattle.std.proofs.Common.{ℕ, ◌≡◌, ◌≢◌, ◌⊎◌, inl, inr, Bool, true, false, not, ◌||◌, cond, List, [], ◌∷◌, ◌++◌, filter, Option, refl, ap, sym, ◌∙◌, subst}
 use Rattle.std.specs.Prelude.{Some as Just, None, IsSomeAnd}
-use Rattle.std.specs.List.{AllByRecursion}
 use Rattle.std.specs.Option.{option_to_list}
 use Rattle.std.specs.Str.{bytes_eq}
 use Rattle.std.specs.Cmp.Lexicographic.{nat_list_eq_equiv}
@@ -20,12 +19,11 @@ use Rattle.st_model.specs.declared.state.PoolState.{PoolState}
 use Rattle.st_model.specs.Look.{Text}
 use Rattle.st_model.specs.Parts.{pool_at, started, table_of}
 use Rattle.st_model.specs.Step.{step}
-use Rattle.st_model.specs.Wanted.{want_of}
 use Rattle.st_model.proofs.Local.{step-is_local}
 use Rattle.st_history.specs.History.{state_after, AreOneCall, IsOf}
 use Rattle.st_history.proofs.Agreement.{AllWant, entries_of_want, entries_agree}
 use Rattle.st_book.specs.Effects.{takes_table}
-use Rattle.st_book.specs.Stands.{AreNamedApart, AreAtHome, IsOut, IsHome, TableIsOut, TableIsHome, PartStands, writes}
+use Rattle.st_book.specs.Stands.{AreAtHome, IsOut, IsHome, TableIsOut, TableIsHome, PartStands, writes}
 use Rattle.st_book.specs.View.{TableView}
 use Rattle.st_book.proofs.Named.{none_and_some, not_found, other_name, flipped, same_found, name_found, apart_push, found_push, found_keep, found_last, empty_of}
 use Rattle.st_book.proofs.Pools.{name_of, compatible_writes, alone_all, writes_same}
