@@ -1,4 +1,4 @@
-ghost use Rattle.std.specs.Prelude.{◌≡◌, ◌<◌, ◌^◌, ◌-◌, ◌↔◌, IfErr, IfOk, IfSome, IfNone, IsSomeAnd, IsSome, IsTrue, OnErr, OnOk, [], Some};
+ghost use Rattle.std.specs.Prelude.{◌≡◌, ◌<◌, ◌^◌, ◌-◌, ◌↔◌, IfErr, IfOk, IfSome, IfNone, IsSomeAnd, IsSome, IsTrue, OnErr, OnOk, [], Some, length};
 ghost use Rattle.st_grants.specs.Order.{IsLeastTicket};
 ghost use Rattle.st_wants.specs.Lock.{IsFree, IsLeastBlocker, IsLive, IsWaiting, arrived, granted, released, row_at, start};
 
@@ -45,6 +45,13 @@ impl Grants {
         ensures { result ≡ self.now.next }
     {
         self.next
+    }
+
+    /// How many tickets arrived and aren't released.
+    pub fn outstanding(&self) -> usize
+        ensures { result ≡ length self.now.rows }
+    {
+        self.rows.len()
     }
 
     /// A new ticket for the want. It waits until it is granted. Refused for want of memory alone,

@@ -6,26 +6,11 @@ use Rattle.st_wants.specs.declared.want.Want.TheVariants as wants
 use Rattle.st_model.specs.declared.call.Call.{Call}
 use Rattle.st_model.specs.declared.info.TableInfo.{TableInfo}
 use Rattle.st_model.specs.declared.state.EngineState.{EngineState}
+use Rattle.st_model.specs.declared.state.KnownPool.{KnownPool}
 use Rattle.st_model.specs.declared.state.PoolState.{PoolState}
+use Rattle.st_model.specs.declared.state.TableState.{TableState}
 use Rattle.st_model.specs.Look.{Text, has_path, is_called, flight_of, devices_taken, name_given}
 use Rattle.st_model.specs.steps.EngineStateReport.{started_pools, halted_pools, stopped_with}
-
--- what the table tells of a known pool, started or not
-pub record KnownPool : Type 0 where
-  pub name : Text
-  pub serial : ℕ
-  -- the name that a rename in flight gives it
-  pub new : Option Text
-  -- those in use: of its state, and of its call in flight
-  pub devices : List Text
-
--- what the table stands for: the known pools in order of their serials, those that aren't started with their
--- states, the rack's devices, and the next serial
-pub record TableState : Type 0 where
-  pub names : List KnownPool
-  pub stopped : List PoolState
-  pub devices : List DevRow
-  pub next : ℕ
 
 abbrev pub paths_taken : Option Call → List Text
 paths_taken None = []
@@ -35,6 +20,7 @@ abbrev pub new_name : Option Call → Option Text
 new_name None = None
 new_name (Some call) = name_given call
 
+-- what the table tells of a pool
 abbrev pub known : PoolState → KnownPool
 known pool = record {
   name = pool.name;
@@ -43,6 +29,7 @@ known pool = record {
   devices = map (λ (row : DevRow). row.path) pool.devices ++ paths_taken (flight_of pool.mode);
 }
 
+-- what the table stands for
 abbrev pub table_of : EngineState → TableState
 table_of s = record { names = map known s.pools; stopped = halted_pools s.pools; devices = s.devices; next = s.next }
 

@@ -26,6 +26,6 @@ pub use laws::{reads_change_nothing, step_is_local, step_keeps_validity};
 pub use meaning::{Board, Cell, Named};
 pub use number_map::NumberMap;
 pub use reply::{Given, Identity, NewFs, Reply};
-pub use state::{CacheState, EngineState, FsState, PoolMode, PoolState};
+pub use state::{CacheState, EngineState, FsState, KnownPool, PoolMode, PoolState, TableState};
 pub use steps::step;
 pub use wanted::want_of;

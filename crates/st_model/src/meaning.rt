@@ -1,5 +1,6 @@
 ghost use Rattle.std.specs.Prelude.{◌≡◌, true, false, IfSome, IfNone, IsSome};
 
+use crate::info::PoolInfo;
 use st_units::{Name, Shared};
 
 /// What has a name.
@@ -63,7 +64,8 @@ pub trait Cell: Named {
 pub trait Board {
     ghost use Rattle.std.specs.Prelude.{ℕ, Bool};
     ghost use Rattle.st_model.specs.declared.info.TableInfo.{TableInfo};
-    ghost use Rattle.st_model.specs.Parts.{TableState, shown_table};
+    ghost use Rattle.st_model.specs.Parts.{shown_table};
+    ghost use Rattle.st_model.specs.declared.state.TableState.{TableState};
 
     /// What a report shows of the table.
     type Info: Send + Sync + Drop;
@@ -105,4 +107,12 @@ pub trait Board {
     /// The number of faults.
     fn faults(&self) -> u64
         ensures { result ≡ fault_count self.now };
+}
+
+impl Named for PoolInfo {
+    ghost named = { λ i. i.name };
+
+    fn name(&self) -> &Name {
+        &self.name
+    }
 }

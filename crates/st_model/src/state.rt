@@ -1,6 +1,6 @@
 use crate::call::Call;
 use crate::number_map::NumberMap;
-use st_units::{Bytes, DevPath, DevRows, FsRow, ItemList, Name, PoolSerial};
+use st_units::{Bytes, DevList, DevPath, DevRows, FsRow, ItemList, Name, PoolSerial};
 
 /// How a pool stands.
 #[derive(Drop)]
@@ -67,6 +67,30 @@ pub struct PoolState {
 pub struct EngineState {
     /// The known pools, in order of their serials.
     pub pools: ItemList<PoolState>,
+    /// The rack's devices, in byte order of their paths.
+    pub devices: DevRows,
+    /// The serial that the next pool gets.
+    pub next: u64,
+}
+
+/// What the table tells of a known pool, started or not.
+#[derive(Drop)]
+pub struct KnownPool {
+    pub name: Name,
+    pub serial: PoolSerial,
+    /// The name that a rename in flight gives it.
+    pub new: Option<Name>,
+    /// Those in use: of its state, and of its call in flight.
+    pub devices: DevList,
+}
+
+/// The engine's state without its started pools.
+#[derive(Drop)]
+pub struct TableState {
+    /// The known pools, in order of their serials.
+    pub names: ItemList<KnownPool>,
+    /// Those that aren't started, in the same order.
+    pub stopped: ItemList<PoolState>,
     /// The rack's devices, in byte order of their paths.
     pub devices: DevRows,
     /// The serial that the next pool gets.

@@ -1,4 +1,4 @@
-ghost use Rattle.std.specs.Prelude.{◌≡◌, ◌+◌, ◌≤◌, ◌<◌, [], ◌∷◌, ◌++◌, OnOk, OnErr, IfOk, IfErr, IsOk, length, slice_get, remove, Some};
+ghost use Rattle.std.specs.Prelude.{◌≡◌, ◌+◌, ◌≤◌, ◌<◌, [], ◌∷◌, ◌++◌, OnOk, OnErr, IfOk, IfErr, IsOk, length, slice_get, slice_set, remove, Some};
 
 use crate::memory::NoMemory;
 use std::alloc::Global;
@@ -45,6 +45,7 @@ impl<T> RoomyList<T> {
     pub fn reserve(&mut self, n: usize) -> Result<(), NoMemory>
         ensures items { self.new.items ≡ self.old.items }
         ensures room { OnOk result (n ≤ self.new.room) }
+        ensures kept { self.old.room ≤ self.new.room }
     {
         self.items.reserve(n)?;
         Ok(())
@@ -117,6 +118,15 @@ impl<T> RoomyList<T> {
 }
 
 impl<T: Drop> RoomyList<T> {
+    /// Puts the item in the place of the one at `i`.
+    pub fn replace(&mut self, i: usize, item: T)
+        requires { i < length self.old.items }
+        ensures items { self.new.items ≡ slice_set self.old.items i item }
+        ensures room { self.new.room ≡ self.old.room }
+    {
+        self.items[i] = item;
+    }
+
     /// Lets all items go, which leaves room for as many.
     pub fn clear(&mut self)
         ensures items { self.new.items ≡ [] }

@@ -1,0 +1,6 @@
+pub mod View
+pub mod Effects
+pub mod Back
+pub mod Callers
+pub mod Stands
+pub mod Rooms
