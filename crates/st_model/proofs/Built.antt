@@ -1,5 +1,5 @@
 -- a call that is built may meet nothing, and may be refused memory, in every state
-use Rattle.std.proofs.Common.{◌≡◌, true, false, Bool, refl}
+use Rattle.std.proofs.Common.{◌≡◌, true, refl}
 use Rattle.st_model.specs.declared.call.Call.{Call}
 use Rattle.st_model.specs.declared.call.Call.TheVariants.{CreatePool, DestroyPool, StopPool, StartPool, RenamePool, AddDataDevs, InitCache, AddCacheDevs, CreateFilesystems, DestroyFilesystems, SnapshotFilesystem, RenameFilesystem, SetSizeLimit, SetFsLimit, SetOverprovisioning, FsWrite, FsRead, Check, PoolReport, EngineStateReport, PowerCycle}
 use Rattle.st_model.specs.declared.entry.Env.TheVariants.{Plain, NoMem}

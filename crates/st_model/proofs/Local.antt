@@ -1,5 +1,5 @@
 -- calls on one pool are local, and calls that read change nothing
-use Rattle.std.proofs.Common.{ℕ, ◌≡◌, List, Option, Some, None, refl, sym, ap, ◌∙◌}
+use Rattle.std.proofs.Common.{◌≡◌, None, refl}
 use Rattle.st_units.specs.declared.cause.Cause.TheVariants.{OutOfMemory}
 use Rattle.st_wants.specs.declared.want.Mode.{Mode}
 use Rattle.st_wants.specs.declared.want.Mode.TheVariants.{Read}
@@ -9,12 +9,10 @@ use Rattle.st_model.specs.declared.call.Call.{Call}
 use Rattle.st_model.specs.declared.call.Call.TheVariants.{CreatePool, DestroyPool, StopPool, StartPool, RenamePool, AddDataDevs, InitCache, AddCacheDevs, CreateFilesystems, DestroyFilesystems, SnapshotFilesystem, RenameFilesystem, SetSizeLimit, SetFsLimit, SetOverprovisioning, FsWrite, FsRead, Check, PoolReport, EngineStateReport, PowerCycle}
 use Rattle.st_model.specs.declared.entry.Env.{Env}
 use Rattle.st_model.specs.declared.entry.Env.TheVariants.{Plain, NoMem, FaultRead, FaultWrite, After, Before}
-use Rattle.st_model.specs.declared.reply.Reply.{Reply}
 use Rattle.st_model.specs.declared.state.EngineState.{EngineState}
 use Rattle.st_model.specs.Answer.{refused}
-use Rattle.st_model.specs.Laws.{LeavesOthers, IsLocal}
+use Rattle.st_model.specs.Laws.{IsLocal}
 use Rattle.st_model.specs.Look.{Text}
-use Rattle.st_model.specs.Parts.{pool_at}
 use Rattle.st_model.specs.Step.{outcome, step}
 use Rattle.st_model.specs.Wanted.{want_of}
 

@@ -1,5 +1,5 @@
 -- replies, and the order in which a call's refusals are tried
-use Rattle.std.specs.Prelude.{ℕ, Bool, true, false, List, [], ◌∷◌, Option, Some, None, is_none, if◌then◌else◌}
+use Rattle.std.specs.Prelude.{ℕ, Bool, List, [], ◌∷◌, Option, Some, None, if◌then◌else◌}
 use Rattle.st_units.specs.declared.cause.Cause.{Cause}
 use Rattle.st_units.specs.declared.cause.Cause.TheVariants.{BadCall, BadName, EmptyDevices, NoSuchDevice, NameInUse, DeviceInUse, DeviceTooSmall, TooManyDevices, TooManyPools, Maintenance, PoolStopped, NotEmpty, NoSuchPool, MissingDevice, PoolVanished, CacheExists, NoCache, BadSize, TooManyFilesystems, OverProvision, NoSuchFilesystem, MappingFull, LimitBelowSize, LimitLower, OutOfRange, NoSpace, DeviceFault, OutOfMemory, Worn}
 use Rattle.st_model.specs.declared.reply.Given.{Given}

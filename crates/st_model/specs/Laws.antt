@@ -1,5 +1,5 @@
 -- laws of step
-use Rattle.std.specs.Prelude.{ℕ, ◌≡◌, false, List, Option}
+use Rattle.std.specs.Prelude.{◌≡◌, false}
 use Rattle.std.specs.Str.{bytes_eq}
 use Rattle.st_wants.specs.declared.want.Mode.{Mode}
 use Rattle.st_wants.specs.declared.want.Mode.TheVariants.{Read}

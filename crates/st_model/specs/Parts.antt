@@ -1,5 +1,5 @@
 -- what a started pool and the table stand for, and what two states have in common for a want
-use Rattle.std.specs.Prelude.{ℕ, ◌≡◌, List, [], ◌∷◌, ◌++◌, Bool, map, filter, find, is_none, Option, Some, None}
+use Rattle.std.specs.Prelude.{◌≡◌, List, [], ◌++◌, Bool, map, filter, find, is_none, Option, Some, None}
 use Rattle.st_units.specs.declared.rows.DevRow.{DevRow}
 use Rattle.st_wants.specs.declared.want.Want.{Want}
 use Rattle.st_wants.specs.declared.want.Want.TheVariants as wants

@@ -1,5 +1,5 @@
 -- what a call answers, and what it leaves
-use Rattle.std.specs.Prelude.{ℕ, ◌≡◌, List, Option, Some, None, Bool, true, false, is_some, unwrap_or}
+use Rattle.std.specs.Prelude.{◌≡◌, Option, None, Bool, true, false, is_some, unwrap_or}
 use Rattle.st_units.specs.declared.cause.Cause.TheVariants.{OutOfMemory}
 use Rattle.st_model.specs.declared.call.Call.{Call}
 use Rattle.st_model.specs.declared.call.Call.TheVariants.{CreatePool, EngineStateReport}
