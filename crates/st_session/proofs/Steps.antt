@@ -28,7 +28,8 @@ use Rattle.st_session.specs.declared.session.Answer.TheVariants.{Ran, Fault, Ref
 use Rattle.st_session.specs.View.{SessionView}
 use Rattle.st_session.specs.Entries.{entries_of, is_from, entry_of, count_from}
 use Rattle.st_session.specs.LaneOrder.{IsLineCall}
-use Rattle.st_session.specs.Running.{IsEntryOf, events_of, RanCall, Stayed, Answered, IsAnswer, AreAnswers}
+use Rattle.st_session.specs.OnPart.{IsEntryOf}
+use Rattle.st_session.specs.Running.{events_of, RanCall, Stayed, Answered, IsAnswer, AreAnswers}
 use Rattle.st_session.specs.Going.{IsGoing, IsLaned}
 use Rattle.st_session.proofs.Laned.{laned_skip, laned_call, laned_start}
 use Rattle.st_session.proofs.Logs.{call_events, entries_of-call, none_from, is_from-line}

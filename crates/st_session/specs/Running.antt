@@ -11,16 +11,10 @@ use Rattle.st_model.specs.Step.{IsLicensed, step}
 use Rattle.st_model.specs.Wanted.{want_of}
 use Rattle.st_calls.specs.Form.{form}
 use Rattle.st_session.specs.Entries.{entries_of, entry_of}
+use Rattle.st_session.specs.OnPart.{IsEntryOf}
 use Rattle.st_session.specs.declared.session.Answer.{Answer}
 use Rattle.st_session.specs.declared.session.Answer.TheVariants.{Ran, Fault, Refused}
 use Rattle.st_session.specs.View.{SessionView}
-
--- the entry of line n's call, as the engine answers it in this state
-pub record IsEntryOf (s : EngineState) (n : ℕ) (call : Call) (e : Entry) : Type 0 where
-  pub call_is : e.call ≡ call
-  pub from_is : e.from ≡ Line n
-  pub licensed : IsLicensed s e.call e.env
-  pub replied : e.reply ≡ (step s e.call e.env).0
 
 -- what a call that is run under its own grant leaves in the log
 abbrev pub events_of : ℕ → Roomy Entry → Call → List Event

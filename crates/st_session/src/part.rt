@@ -1,4 +1,4 @@
-ghost use Rattle.std.specs.Prelude.{ℕ, ◌≡◌, ◌≤◌, ◌^◌, true, false, option_map, IfOk, OnErr, IfSome, IsSome};
+ghost use Rattle.std.specs.Prelude.{ℕ, ◌≡◌, ◌≤◌, ◌^◌, true, false, None, option_map, IfOk, OnErr, IfSome, IsSome, IsSomeAnd};
 ghost use Rattle.std.specs.List.{AllByRecursion};
 ghost use Rattle.st_units.specs.declared.rows.DevRow.{DevRow};
 ghost use Rattle.st_model.specs.declared.call.Call.TheVariants.{CreatePool, EngineStateReport};
@@ -16,9 +16,9 @@ ghost use Rattle.st_plain.specs.Views.{pools_of};
 ghost use Rattle.st_session.specs.OnPart.{plain_view, IsLeft, IsRun};
 
 use st_book::{InfoList, Part};
-use st_model::{Call, Entry, Env, Origin, Reply};
+use st_model::{Call, Entry, Env, Origin, PoolInfo, Reply, TableInfo};
 use st_plain::{PlainCell, PlainTable, create, report};
-use st_units::{Cause, DevList, Name, NoMemory};
+use st_units::{Cause, DevList, Name, NoMemory, Shared};
 use std::alloc::Global;
 
 /// What a ticket of the session holds.
@@ -66,8 +66,22 @@ fn create_on(alloc: Global, name: &Name, devices: &DevList, part: PlainPart) -> 
     Answered { part, answer }
 }
 
+/// The report of what is shown, where it is shown.
+fn report_shown(
+    alloc: Global,
+    table_info: Option<Shared<TableInfo>>,
+    infos: InfoList<PoolInfo>,
+) -> Result<Reply, NoMemory>
+    ensures { IfOk result (λ reply. IsSomeAnd table_info (λ i. (s : EngineState) → IsValid s → i ≡ shown_table (table_of s) → InfosAre s infos.items → reply ≡ (step s EngineStateReport Plain).0)) }
+{
+    let Some(info) = table_info else {
+        return Err(NoMemory);
+    };
+    report(alloc, info, infos)
+}
+
 fn report_on(alloc: Global, part: PlainPart) -> Answered
-    ensures ok { IfOk result.answer (λ reply. part.short ≡ false × IfSome part.table_info (λ i. (s : EngineState) → IsValid s → i ≡ shown_table (table_of s) → InfosAre s part.infos.items → reply ≡ (step s EngineStateReport Plain).0)) }
+    ensures ok { IfOk result.answer (λ reply. IsSomeAnd part.table_info (λ i. (s : EngineState) → IsValid s → i ≡ shown_table (table_of s) → InfosAre s part.infos.items → reply ≡ (step s EngineStateReport Plain).0)) }
     ensures cells { result.part.cells.items ≡ part.cells.items }
     ensures table { result.part.table ≡ part.table }
 {
@@ -78,10 +92,7 @@ fn report_on(alloc: Global, part: PlainPart) -> Answered
         infos,
         short,
     } = part;
-    let answer = match table_info {
-        Some(info) if !short => report(alloc, info, infos),
-        Some(_) | None => Err(NoMemory),
-    };
+    let answer = report_shown(alloc, table_info, infos);
     let part = Part {
         table,
         table_info: None,
@@ -95,6 +106,7 @@ fn report_on(alloc: Global, part: PlainPart) -> Answered
 /// Runs the call on the part that a ticket for it holds.
 fn answer_on(alloc: Global, call: &Call, part: PlainPart) -> Answered
     requires built { is_built call.now ≡ true }
+    requires short { part.short ≡ true → part.table_info ≡ None }
     requires stands { (s : EngineState) × IsValid s × PartStands (want_of call.now) s (pools_of part.cells.items) (option_map plain_view part.table) }
     ensures ok { IfOk result.answer (λ reply. (s : EngineState) → IsValid s → PartStands (want_of call.now) s (pools_of part.cells.items) (option_map plain_view part.table)
         → (part.short ≡ false → PartShows (want_of call.now) s part.infos.items part.table_info) → IsLeft s call.now reply result.part.cells.items result.part.table) }
@@ -130,6 +142,7 @@ fn entry_of(number: u64, call: Call, answer: Result<Reply, NoMemory>) -> Entry
 /// or want of memory.
 pub(crate) fn run_on(alloc: Global, number: u64, call: Call, part: PlainPart) -> Ran
     requires built { is_built call ≡ true }
+    requires short { part.short ≡ true → part.table_info ≡ None }
     requires stands { (s : EngineState) × IsValid s × PartStands (want_of call) s (pools_of part.cells.items) (option_map plain_view part.table) }
     ensures { (s : EngineState) → IsValid s → PartStands (want_of call) s (pools_of part.cells.items) (option_map plain_view part.table)
         → (part.short ≡ false → PartShows (want_of call) s part.infos.items part.table_info) → IsRun s number call result.entry result.part.cells.items result.part.table }
