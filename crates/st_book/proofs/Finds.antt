@@ -1,5 +1,5 @@
 -- what a search of a list finds, and the list with that taken out or with another in its place
-use Rattle.std.proofs.Common.{ℕ, zero, suc, ◌≡◌, ◌+◌, ◌≤◌, Bool, true, false, cond, List, [], ◌∷◌, ◌++◌, map, take, set, Option, Some, None, refl, ap, sym, ◌∙◌, subst, arith}
+use Rattle.std.proofs.Common.{ℕ, zero, suc, ◌≡◌, ◌+◌, length, Bool, true, false, cond, List, [], ◌∷◌, ◌++◌, map, take, set, Option, Some, None, refl, ap, sym, ◌∙◌, subst, arith}
 use Rattle.std.specs.Prelude.{find, slice_get, remove}
 use Rattle.std.specs.List.{AllByRecursion, sum_by}
 use Rattle.std.proofs.lemmas.List.Sums.{sum_by-cons}
@@ -93,3 +93,7 @@ pub all_out : {A : Type 0} (P : A → Type 0) (xs : List A) (i : ℕ) (x : A) �
 all_out P [] i x at h = absurd cc
 all_out P (y ∷ ys) zero x at h = let same : y ≡ x = cc in (subst P same h.0, h.1)
 all_out P (y ∷ ys) (suc i) x at h = let r = all_out P ys i x at h.1 in (r.0, (h.0, r.1))
+
+pub empty_of : {A : Type 0} (xs : List A) → length xs ≡ 0 → xs ≡ []
+empty_of [] h = refl
+empty_of (x ∷ xs) h = absurd (omega (arith, h))
