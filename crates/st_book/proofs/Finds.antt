@@ -9,6 +9,7 @@ use Rattle.st_model.specs.declared.info.PoolInfo.{PoolInfo}
 use Rattle.st_model.specs.declared.state.PoolState.{PoolState}
 use Rattle.st_model.specs.Look.{Text, is_called}
 use Rattle.st_model.specs.Parts.{pool_at}
+use Rattle.st_model.specs.steps.EngineStateReport.{pool_info}
 use Rattle.st_book.specs.Effects.{without_pool, is_info_of, info_at, renewed}
 
 -- one more that fails the test isn't found
@@ -94,6 +95,15 @@ all_out P [] i x at h = absurd cc
 all_out P (y ∷ ys) zero x at h = let same : y ≡ x = cc in (subst P same h.0, h.1)
 all_out P (y ∷ ys) (suc i) x at h = let r = all_out P ys i x at h.1 in (r.0, (h.0, r.1))
 
-pub empty_of : {A : Type 0} (xs : List A) → length xs ≡ 0 → xs ≡ []
-empty_of [] h = refl
-empty_of (x ∷ xs) h = absurd (omega (arith, h))
+
+-- an info put in its own place changes nothing
+pub same_in : (x : PoolInfo) (xs : List PoolInfo) → info_at x.name xs ≡ Some x → renewed x xs ≡ xs
+same_in x [] h = refl
+same_in x (y ∷ ys) h =
+    let cases : (b : Bool) → cond b (Some y) (info_at x.name ys) ≡ Some x → cond b (x ∷ ys) (y ∷ renewed x ys) ≡ y ∷ ys = elim [ true ↦ (λ k. let same : y ≡ x = cc in ap (λ z. z ∷ ys) (sym same)) | false ↦ (λ k. ap (λ zs. y ∷ zs) (same_in x ys k)) ] in
+    cases (is_info_of x.name y) h
+
+-- an info has its pool's name
+pub pool_info_name : (p : PoolState) → (pool_info p).name ≡ p.name
+unfolding pool_info
+pool_info_name p = refl
