@@ -1,19 +1,17 @@
 -- histories in two parts, and the history of one call under its own grant
-use Rattle.std.proofs.Common.{◌≡◌, ℕ, ◌+◌, ◌==◌, List, [], ◌∷◌, ◌++◌, map, Bool, true, false, ◌&&◌, ◌||◌, not, nat_lt, cond, filter, Option, Some, None, refl, sym, ap, ◌∙◌, subst, arith}
+use Rattle.std.proofs.Common.{◌≡◌, ℕ, ◌+◌, ◌==◌, List, [], ◌∷◌, ◌++◌, Bool, true, false, ◌&&◌, ◌||◌, nat_lt, cond, Some, None, refl, arith}
 use Rattle.std.proofs.lemmas.Grind.{common_steps}
-use Rattle.std.specs.Prelude.{IsSomeAnd, find}
 use Rattle.st_units.specs.Roomy.{Roomy}
 use Rattle.st_wants.specs.declared.want.Want.{Want}
 use Rattle.st_wants.specs.declared.row.LockRow.{LockRow}
 use Rattle.st_wants.specs.Wants.{conflict}
-use Rattle.st_wants.specs.Lock.{Lock, row_at, has_ticket, new_row, arrived, granted, released, marked, keeps_back, Blocks, IsFree}
-use Rattle.st_wants.specs.Rules.{Move, May, lock_after, lock_run}
-use Rattle.st_model.specs.declared.call.Call.{Call}
+use Rattle.st_wants.specs.Lock.{Lock, row_at, has_ticket, new_row, keeps_back, IsFree}
+use Rattle.st_wants.specs.Rules.{lock_after, lock_run}
 use Rattle.st_model.specs.declared.entry.Entry.{Entry}
 use Rattle.st_history.specs.declared.log.Event.{Event}
 use Rattle.st_history.specs.declared.log.Event.TheVariants.{Arrive, Grant, Release}
 use Rattle.st_model.specs.declared.state.EngineState.{EngineState}
-use Rattle.st_history.specs.History.{move_of, moves_of, state_past, replay, AreSteps, AreOneCall, IsOf, IsDue, HistoryFrom, idle}
+use Rattle.st_history.specs.History.{move_of, moves_of, state_past, replay, AreSteps, AreOneCall, HistoryFrom, idle}
 use Rattle.st_model.specs.Step.{step}
 use Rattle.st_model.specs.Wanted.{want_of}
 

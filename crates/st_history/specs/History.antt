@@ -1,6 +1,5 @@
 -- histories: logs of the lock in which each entry is the engine's at its place
-use Rattle.std.specs.Prelude.{ℕ, ◌≡◌, ◌<◌, Bool, true, false, List, [], ◌∷◌, ◌++◌, map, find, Option, Some, None, IsSomeAnd}
-use Rattle.st_units.specs.Roomy.{Roomy}
+use Rattle.std.specs.Prelude.{ℕ, ◌≡◌, ◌<◌, List, [], ◌∷◌, map, find, Option, Some, IsSomeAnd}
 use Rattle.st_units.specs.declared.cause.Cause.{Cause}
 use Rattle.st_units.specs.declared.cause.Cause.TheVariants as causes
 use Rattle.st_wants.specs.declared.want.Want.{Want}
@@ -10,17 +9,15 @@ use Rattle.st_wants.specs.Rules as rule
 use Rattle.st_model.specs.declared.call.Call.{Call}
 use Rattle.st_model.specs.declared.call.Call.TheVariants.{Check, FsWrite}
 use Rattle.st_model.specs.declared.entry.Entry.{Entry}
-use Rattle.st_model.specs.declared.entry.Env.{Env}
 use Rattle.st_model.specs.declared.entry.Env.TheVariants.{Plain, NoMem}
 use Rattle.st_history.specs.declared.log.Event.{Event}
 use Rattle.st_history.specs.declared.log.Event.TheVariants.{Arrive, Grant, Release}
 use Rattle.st_model.specs.declared.entry.Origin.{Origin}
 use Rattle.st_model.specs.declared.entry.Origin.TheVariants.{Line, Prepare, Close}
 use Rattle.st_model.specs.declared.entry.Origin.TheVariants as origins
-use Rattle.st_model.specs.declared.reply.Reply.{Reply}
 use Rattle.st_model.specs.declared.state.EngineState.{EngineState}
 use Rattle.st_model.specs.declared.state.PoolState.{PoolState}
-use Rattle.st_model.specs.Look.{Text, is_called}
+use Rattle.st_model.specs.Look.{is_called}
 use Rattle.st_model.specs.Step.{IsLicensed, step}
 use Rattle.st_model.specs.Sums.{room}
 use Rattle.st_model.specs.Wanted.{want_of}
