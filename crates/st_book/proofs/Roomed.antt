@@ -1,7 +1,7 @@
 -- The memory that is kept ready, and the place of the table, after an arrival, a grant and a release.
 use Rattle.std.proofs.Common.{ℕ, ◌≡◌, ◌≢◌, ◌+◌, ◌*◌, ◌<◌, ◌≤◌, ◌==◌, ◌⊎◌, inl, inr, Bool, true, false, not, ◌||◌, cond, List, [], ◌∷◌, ◌++◌, map, filter, length, Option, refl, ap, sym, ◌∙◌, subst, arith, length-append}
 use Rattle.std.proofs.lemmas.List.{length-map}
-use Rattle.std.specs.Prelude.{Some as Just, None, is_some}
+use Rattle.std.specs.Prelude.{Some as Just, None, is_some, option_map, IfSome}
 use Rattle.std.proofs.lemmas.Bool.Decides.{nat_tests}
 use Rattle.st_wants.specs.declared.row.LockRow.{LockRow}
 use Rattle.st_wants.specs.declared.want.Want.{Want}
@@ -9,9 +9,10 @@ use Rattle.st_wants.specs.Lock.{Lock, row_at, has_ticket, new_row, marked, arriv
 use Rattle.st_wants.specs.Rules.{Arrive, Grant, Release}
 use Rattle.st_grants.proofs.Lookups.{ticket_of}
 use Rattle.st_grants.proofs.Sound.{IsSound, sound_step, row_push, row_keep, row_marked, row_marks, row_gone, row_stays, row_left}
-use Rattle.st_book.specs.Effects.{takes_table}
+use Rattle.st_book.specs.Effects.{takes_table, table_left, table_given}
 use Rattle.st_book.specs.Rooms.{HasRoom, TableIsPlaced, waiting, events_due}
 use Rattle.st_book.specs.Stands.{TableIsHome, TableIsOut}
+use Rattle.st_book.specs.View.{or_zero}
 use Rattle.st_book.proofs.Named.{none_and_some}
 use Rattle.st_book.proofs.Pools.{compatible_table}
 use Rattle.st_book.proofs.AtHome.{lives}
@@ -258,3 +259,22 @@ quiet_home rows there h quiet = elim h [ inl i ↦ i.0 | inr o ↦ absurd (none_
 pub none_there : {A : Type 0} (o : Option A) → is_some o ≡ false → o ≡ None
 none_there (Just x) h = absurd cc
 none_there None h = refl
+
+-- what a want takes of the table, and what it leaves
+
+pub left_there : {A : Type 0} (want : Want) (table : Option A) → is_some (table_left want table) ≡ cond (takes_table want) false (is_some table)
+left_there want table = let cases : (b : Bool) → is_some (cond b None table) ≡ cond b false (is_some table) = elim [ true ↦ refl | false ↦ refl ] in cases (takes_table want)
+
+pub left_viewed : {A B : Type 0} (f : A → B) (want : Want) (table : Option A) → option_map f (table_left want table) ≡ table_left want (option_map f table)
+left_viewed f want table = let cases : (b : Bool) → option_map f (cond b None table) ≡ cond b None (option_map f table) = elim [ true ↦ refl | false ↦ refl ] in cases (takes_table want)
+
+pub given_viewed : {A B : Type 0} (f : A → B) (want : Want) (table : Option A) → option_map f (table_given want table) ≡ table_given want (option_map f table)
+given_viewed f want table = let cases : (b : Bool) → option_map f (cond b table None) ≡ cond b (option_map f table) None = elim [ true ↦ refl | false ↦ refl ] in cases (takes_table want)
+
+pub left_and_given : {A : Type 0} (f : A → ℕ) (want : Want) (table : Option A) → or_zero (option_map f (table_left want table)) + or_zero (option_map f (table_given want table)) ≡ or_zero (option_map f table)
+left_and_given f want table =
+    let cases : (b : Bool) → or_zero (option_map f (cond b None table)) + or_zero (option_map f (cond b table None)) ≡ or_zero (option_map f table) = elim [ true ↦ omega arith | false ↦ omega arith ] in
+    cases (takes_table want)
+
+pub left_kept : {A : Type 0} (P : A → Type 0) (want : Want) (table : Option A) → IfSome table P → IfSome (table_left want table) P
+left_kept P want table h = let cases : (b : Bool) → IfSome (cond b None table) P = elim [ true ↦ tt | false ↦ h ] in cases (takes_table want)
