@@ -62,3 +62,36 @@ returns-clause-stands g c = λ s base h.
     let tables' : or_zero (option_map g.T.Board.fault_count c.take_table-table.new.table) + or_zero (option_map g.T.Board.fault_count c.take_table-table.result) ≡ or_zero (option_map g.T.Board.fault_count c.self.inside.table) = rw (left, given) tables in
     stands_granted s base _ _ c.args.ticket own.0 _ out h' own.1 own.2 c.in_ok-can_grant.ensures.ok c.grant.ensures (rw seat at c.put.ensures.items) (rw want at c.take_cells-cells.ensures.home) refl
     (ap (option_map viewed) left ∙ left_viewed viewed own.0.want c.self.inside.table) refl c.in-Ok.ensures.items refl (rw c.items-2.ensures at c.faults_of-faults.ensures) (omega (arith, tables', c.take_cells-cells.ensures.faults))
+
+pub returns-clause-part : goal.returns-clause-part
+returns-clause-part g c = λ s base h.
+    let h' = rw (← c.self.view_is) at h in
+    let own = some_and (λ (r : LockRow). r.live ≡ false) (row_at c.args.ticket c.self.inside.grants.rows) (rw (← c.self.view_is) at c.requires) in
+    let want : c.want-want.result.now ≡ own.0.want = rw own.1 at c.want-want.ensures in
+    let viewed = λ (t : g.row.T.Denot). let v : TableView = record { state = g.T.Board.stands t; slack = g.T.Board.slack t } in v in
+    let given : c.take_table-table.result ≡ table_given own.0.want c.self.inside.table = rw want at c.take_table-table.ensures.part in
+    let table : option_map viewed c.take_table-table.result ≡ table_given own.0.want (option_map viewed c.self.inside.table) = ap (option_map viewed) given ∙ given_viewed viewed own.0.want c.self.inside.table in
+    let cells : map g.C.Cell.state c.take_cells-cells.result.items ≡ cells_given own.0.want (map g.C.Cell.state c.self.inside.cells.items) = rw want at c.take_cells-cells.ensures.part in
+    rw (← c.self.view_is) (rw (own.1, cells, table) (part_given s base _ c.args.ticket own.0 h' own.1 c.in_ok-can_grant.ensures.ok))
+
+pub returns-clause-shown : goal.returns-clause-shown
+returns-clause-shown g c = λ whole s base h.
+    let h' = rw (← c.self.view_is) at h in
+    let own = some_and (λ (r : LockRow). r.live ≡ false) (row_at c.args.ticket c.self.inside.grants.rows) (rw (← c.self.view_is) at c.requires) in
+    let want : c.want-want.result.now ≡ own.0.want = rw own.1 at c.want-want.ensures in
+    let infos : map g.C.Cell.shows c.show_part-shown.result.infos.items ≡ infos_given own.0.want (map g.C.Cell.shows c.self.inside.infos.items) = rw (want, c.items.ensures) at (c.show_part-shown.ensures.infos whole) in
+    let table : option_map g.T.Board.shows c.show_part-shown.result.table_info ≡ table_info_given own.0.want (g.T.Board.shows c.self.inside.table_info) = rw want at (c.show_part-shown.ensures.table whole) in
+    rw (← c.self.view_is) (rw (own.1, infos, table) (part_shown s base _ own.0.want h'))
+
+pub returns-clause-lent : goal.returns-clause-lent
+returns-clause-lent g c = λ s base h k.
+    let h' = rw (← c.self.view_is) at h in
+    let few = rw (← c.self.view_is) at k in
+    let own = some_and (λ (r : LockRow). r.live ≡ false) (row_at c.args.ticket c.self.inside.grants.rows) (rw (← c.self.view_is) at c.requires) in
+    let want : c.want-want.result.now ≡ own.0.want = rw own.1 at c.want-want.ensures in
+    let out = or_zero (option_map g.T.Board.fault_count c.take_table-table.result) + sum_by g.C.Cell.fault_count c.take_cells-cells.result.items in
+    let left : c.take_table-table.new.table ≡ table_left own.0.want c.self.inside.table = rw want at c.take_table-table.ensures.home in
+    let given : c.take_table-table.result ≡ table_given own.0.want c.self.inside.table = rw want at c.take_table-table.ensures.part in
+    let rest = or_zero (option_map g.T.Board.fault_count c.take_table-table.new.table) + sum_by g.C.Cell.fault_count c.take_cells-cells.new.cells.items in
+    let tables : or_zero (option_map g.T.Board.fault_count c.take_table-table.new.table) + or_zero (option_map g.T.Board.fault_count c.take_table-table.result) ≡ or_zero (option_map g.T.Board.fault_count c.self.inside.table) = rw (left, given) (left_and_given g.T.Board.fault_count own.0.want c.self.inside.table) in
+    rw c.in-Ok.ensures.items (lent_number s base _ c.args.ticket own.0 _ rest out h' own.1 own.2 refl (rw c.items-2.ensures at c.faults_of-faults.ensures) (omega (arith, tables, c.take_cells-cells.ensures.faults)) few)
