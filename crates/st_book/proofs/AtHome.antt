@@ -1,5 +1,5 @@
 -- What is at home after an arrival and after a grant, and what a grant gives.
-use Rattle.std.proofs.Common.{ℕ, ◌≡◌, ◌≢◌, ◌==◌, ◌⊎◌, inl, inr, Bool, true, false, not, ◌||◌, cond, List, [], ◌∷◌, ◌++◌, map, Option, refl, ap, sym, ◌∙◌, subst, arith}
+use Rattle.std.proofs.Common.{ℕ, ◌≡◌, ◌==◌, ◌⊎◌, inl, inr, Bool, true, false, ◌||◌, List, [], ◌∷◌, ◌++◌, map, Option, refl, ap, sym, ◌∙◌, subst, arith}
 use Rattle.std.specs.Prelude.{Some as Just, None, IsSomeAnd}
 use Rattle.std.specs.List.{IsDistinct}
 use Rattle.std.specs.Option.{option_to_list}
@@ -19,7 +19,7 @@ use Rattle.st_model.specs.declared.state.PoolState.{PoolState}
 use Rattle.st_model.specs.Look.{Text}
 use Rattle.st_model.specs.Parts.{pool_at, started, table_of}
 use Rattle.st_book.specs.Effects.{without_pool, cells_left, cells_given, takes_table, table_left, table_given}
-use Rattle.st_book.specs.Stands.{AreNamedApart, AreAtHome, IsOut, IsHome, TableIsOut, TableIsHome, PartStands, writes}
+use Rattle.st_book.specs.Stands.{AreAtHome, IsOut, TableIsOut, PartStands, writes}
 use Rattle.st_book.specs.View.{TableView}
 use Rattle.st_book.proofs.Named.{none_and_some, not_found}
 use Rattle.st_book.proofs.Pools.{apart_without, found_without, stays_without, compatible_writes, compatible_table}

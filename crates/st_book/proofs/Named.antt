@@ -1,14 +1,14 @@
 -- Look-ups by name in lists of named things, and lists whose names are apart.
-use Rattle.std.proofs.Common.{ℕ, ◌≡◌, ◌+◌, ◌≤◌, ◌⊎◌, inl, inr, Bool, true, false, not, ◌||◌, cond, List, [], ◌∷◌, ◌++◌, map, filter, length, Option, Some, None, refl, ap, sym, ◌∙◌, subst, arith}
+use Rattle.std.proofs.Common.{ℕ, ◌≡◌, ◌+◌, ◌≤◌, ◌⊎◌, inl, inr, Bool, true, false, not, ◌||◌, cond, List, [], ◌∷◌, ◌++◌, map, length, Option, Some, None, refl, ap, sym, ◌∙◌, arith}
 use Rattle.std.specs.Prelude.{find, is_some, option_map}
-use Rattle.std.specs.List.{AllByRecursion, IsDistinct, list_any, sum_by}
+use Rattle.std.specs.List.{AllByRecursion, IsDistinct, sum_by}
 use Rattle.std.specs.Str.{bytes_eq}
 use Rattle.std.specs.Set.{is_member}
 use Rattle.std.specs.Cmp.Lexicographic.{nat_list_eq_equiv}
 use Rattle.std.proofs.lemmas.List.{length-map}
 use Rattle.std.proofs.lemmas.List.Sums.{sum_by-cons}
 use Rattle.std.proofs.lemmas.Map.Made.{length-le_from_is_member}
-use Rattle.st_grants.proofs.Lookups.{find_passes, all_append}
+use Rattle.st_grants.proofs.Lookups.{find_passes}
 use Rattle.st_model.specs.Look.{Text}
 
 pub none_and_some : {A : Type 0} (o : Option A) (x : A) → o ≡ None → o ≡ Some x → ⊥
@@ -110,11 +110,11 @@ module _ {A : Type 0} (f : A → Text) where
   pub no_longer : (xs ys : List A) → AreApart xs → ((n : Text) (x : A) → at n xs ≡ Some x → at n ys ≡ Some x) → length xs ≤ length ys
   no_longer xs ys apart found =
       let each : (n : Text) → is_member bytes_eq (map f xs) n ≡ true → is_member bytes_eq (map f ys) n ≡ true = λ n h.
-          let cases : (o : Option A) → at n xs ≡ o → is_some o ≡ true → is_some (at n ys) ≡ true = elim [
-            | Some x ↦ (λ e k. ap is_some (found n x e))
-            | None ↦ (λ e k. absurd cc)
-          ] in
-          is_member_found n ys ∙ cases (at n xs) refl (sym (is_member_found n xs) ∙ h) in
+      let cases : (o : Option A) → at n xs ≡ o → is_some o ≡ true → is_some (at n ys) ≡ true = elim [
+        | Some x ↦ (λ e k. ap is_some (found n x e))
+        | None ↦ (λ e k. absurd cc)
+      ] in
+      is_member_found n ys ∙ cases (at n xs) refl (sym (is_member_found n xs) ∙ h) in
       let few : length (map f xs) ≤ length (map f ys) = length-le_from_is_member nat_list_eq_equiv (map f xs) (map f ys) apart each in
       let a : length (map f xs) ≡ length xs = length-map xs f in
       let b : length (map f ys) ≡ length ys = length-map ys f in

@@ -1,6 +1,6 @@
 -- The pools but for one, and what compatible wants write.
-use Rattle.std.proofs.Common.{ℕ, ◌≡◌, ◌==◌, Bool, true, false, not, ◌||◌, cond, List, [], ◌∷◌, ◌++◌, map, Option, refl, ap, sym, ◌∙◌}
-use Rattle.std.specs.Prelude.{Some as Just, None, find}
+use Rattle.std.proofs.Common.{◌≡◌, Bool, true, false, cond, List, [], ◌∷◌, map, refl, sym, ◌∙◌}
+use Rattle.std.specs.Prelude.{Some as Just}
 use Rattle.std.specs.List.{AllByRecursion, IsDistinct}
 use Rattle.std.specs.Str.{bytes_eq}
 use Rattle.st_wants.specs.declared.want.Want.{Want}

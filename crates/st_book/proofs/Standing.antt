@@ -1,20 +1,16 @@
 -- What a book stands for, from its making on: after an arrival, after a grant, and at its close.
-use Rattle.std.proofs.Common.{ℕ, ◌≡◌, ◌≢◌, ◌+◌, ◌-◌, ◌*◌, ◌<◌, ◌≤◌, ◌^◌, ◌==◌, ◌⊎◌, inl, inr, Bool, true, false, not, ◌||◌, cond, List, [], ◌∷◌, ◌++◌, map, length, Option, refl, ap, sym, ◌∙◌, subst, arith, length-append}
+use Rattle.std.proofs.Common.{ℕ, ◌≡◌, ◌+◌, ◌-◌, ◌*◌, ◌<◌, ◌≤◌, ◌^◌, ◌==◌, inl, inr, Bool, true, false, ◌||◌, List, [], ◌∷◌, ◌++◌, map, length, Option, refl, ap, sym, ◌∙◌, subst, arith, length-append}
 use Rattle.std.specs.Prelude.{Some as Just, None, IsSomeAnd, IfSome, min, option_map}
 use Rattle.std.specs.List.{IsDistinct}
 use Rattle.std.specs.Option.{option_to_list}
-use Rattle.std.specs.Str.{bytes_eq}
 use Rattle.std.proofs.lemmas.Bool.Decides.{nat_tests}
 use Rattle.st_wants.specs.declared.row.LockRow.{LockRow}
 use Rattle.st_wants.specs.declared.want.Want.{Want}
 use Rattle.st_wants.specs.declared.want.Want.TheVariants.{Some, All}
 use Rattle.st_wants.specs.declared.want.Mode.TheVariants.{Read, Write}
 use Rattle.st_wants.specs.Lock.{Lock, row_at, new_row, marked, start, arrived, granted, IsFree}
-use Rattle.st_wants.specs.Rules as rule
 use Rattle.st_wants.specs.Rules.{May, lock_after, lock_run}
 use Rattle.st_grants.proofs.Sound.{row_keep, row_marks}
-use Rattle.st_model.specs.declared.info.PoolInfo.{PoolInfo}
-use Rattle.st_model.specs.declared.info.TableInfo.{TableInfo}
 use Rattle.st_model.specs.declared.state.EngineState.{EngineState}
 use Rattle.st_model.specs.declared.state.PoolState.{PoolState}
 use Rattle.st_model.specs.declared.state.TableState.{TableState}
@@ -22,14 +18,14 @@ use Rattle.st_model.specs.Look.{Text}
 use Rattle.st_model.specs.Parts.{pool_at, started, table_of, shown_table}
 use Rattle.st_model.specs.steps.EngineStateReport.{pool_info}
 use Rattle.st_history.specs.declared.log.Event.{Event}
-use Rattle.st_history.specs.declared.log.Event.TheVariants.{Arrive, Grant, Release}
+use Rattle.st_history.specs.declared.log.Event.TheVariants.{Arrive, Grant}
 use Rattle.st_history.specs.Failures.{failures, failures_in}
 use Rattle.st_history.specs.History.{History, IsDue, move_of, moves_of, replay, state_past}
 use Rattle.st_history.proofs.Snoc.{history-snoc, lock_run-snoc, replay-snoc}
 use Rattle.st_history.proofs.Failures.{failures-snoc, failures-few}
 use Rattle.st_book.specs.declared.lent.Lent.{Lent}
-use Rattle.st_book.specs.Effects.{cells_left, cells_given, table_left, table_given, infos_given, table_info_given, takes_table, info_at}
-use Rattle.st_book.specs.Stands.{Stands, AreAtHome, InfosShow, PartStands, PartShows, IsOut, TableIsOut}
+use Rattle.st_book.specs.Effects.{cells_left, cells_given, table_left, table_given, infos_given, table_info_given}
+use Rattle.st_book.specs.Stands.{Stands, AreAtHome, InfosShow, PartStands, PartShows}
 use Rattle.st_book.specs.View.{BookView, TableView, is_lent_to, lent_at, lent_sum}
 use Rattle.st_book.proofs.Named.{none_and_some, not_found}
 use Rattle.st_book.proofs.AtHome.{home_arrived, home_granted, part_home, lives}
@@ -151,21 +147,21 @@ stands_granted s base b n t r x out h at waits free lock log cells infos table t
     let waiting : IsSomeAnd (row_at t b.lock.rows) (λ (q : LockRow). (q.live ≡ false) × (q.seat ≡ r.seat)) = rw at (waits, refl) in
     let mine : row_at t (map (marked t) b.lock.rows) ≡ Just (marked t r) = row_marks t t b.lock.rows r at in
     let idle : IsIdle (map (marked t) b.lock.rows) (b.lent ++ x ∷ []) = λ u k.
-        let old : lent_at u b.lent ≡ 0 = h.idle u (λ q qat. or_none q.live (q.ticket == t) (k (marked t q) (row_marks t u b.lock.rows q qat))) in
-        let cases : (y : Bool) → is_lent_to u x ≡ y → lent_at u (b.lent ++ x ∷ []) ≡ 0 = elim [
-          | true ↦ (λ e.
-              let same : t ≡ u = grind (arith, nat_tests) in
-              let dead : (marked t r).live ≡ false = k (marked t r) (subst (λ z. row_at z (map (marked t) b.lock.rows) ≡ Just (marked t r)) same mine) in
-              let live : (marked t r).live ≡ true = lives t b.lock.rows r at in
-              absurd (let no : true ≡ false = sym live ∙ dead in cc))
-          | false ↦ (λ e. lent_push_other u b.lent x e ∙ old)
-        ] in
-        cases (is_lent_to u x) refl in
+    let old : lent_at u b.lent ≡ 0 = h.idle u (λ q qat. or_none q.live (q.ticket == t) (k (marked t q) (row_marks t u b.lock.rows q qat))) in
+    let cases : (y : Bool) → is_lent_to u x ≡ y → lent_at u (b.lent ++ x ∷ []) ≡ 0 = elim [
+      | true ↦ (λ e.
+          let same : t ≡ u = grind (arith, nat_tests) in
+          let dead : (marked t r).live ≡ false = k (marked t r) (subst (λ z. row_at z (map (marked t) b.lock.rows) ≡ Just (marked t r)) same mine) in
+          let live : (marked t r).live ≡ true = lives t b.lock.rows r at in
+          absurd (let no : true ≡ false = sym live ∙ dead in cc))
+      | false ↦ (λ e. lent_push_other u b.lent x e ∙ old)
+    ] in
+    cases (is_lent_to u x) refl in
     let counted : length b.log < 2 ^ 62 → failures b.log + 0 ≡ n.faults + lent_sum (b.lent ++ x ∷ []) = λ k.
-        let f : failures b.log ≡ b.faults + lent_sum b.lent = h.faults k in
-        let whole : x.faults ≡ out = number ∙ out_small s base b n.faults out h faults k in
-        let sum = lent_sum_push b.lent x in
-        omega arith in
+    let f : failures b.log ≡ b.faults + lent_sum b.lent = h.faults k in
+    let whole : x.faults ≡ out = number ∙ out_small s base b n.faults out h faults k in
+    let sum = lent_sum_push b.lent x in
+    omega arith in
     stands_after s base b n (Grant r.seat t) h (record {
       may = (waiting, free);
       due = tt;
@@ -199,11 +195,11 @@ part_at_close s base b h quiet =
     let nobody : (t : ℕ) (r : LockRow) → row_at t b.lock.rows ≡ Just r → ⊥ = λ t r at. none_and_some (row_at t b.lock.rows) r (ap (row_at t) quiet) at in
     let now : EngineState = replay s b.log in
     let found : (n : Text) → pool_at n b.cells ≡ pool_at n (started now) = λ n.
-        let cases : (o : Option PoolState) → pool_at n (started now) ≡ o → pool_at n b.cells ≡ o = elim [
-          | Just p ↦ (λ e. elim (h.home.all n p e) [ inl i ↦ i | inr o ↦ absurd (nobody o.ticket o.row o.at) ])
-          | None ↦ (λ e. not_found (pool_at n b.cells) (λ p k. none_and_some (pool_at n (started now)) p e (h.home.cells n p k).0))
-        ] in
-        cases (pool_at n (started now)) refl in
+    let cases : (o : Option PoolState) → pool_at n (started now) ≡ o → pool_at n b.cells ≡ o = elim [
+      | Just p ↦ (λ e. elim (h.home.all n p e) [ inl i ↦ i | inr o ↦ absurd (nobody o.ticket o.row o.at) ])
+      | None ↦ (λ e. not_found (pool_at n b.cells) (λ p k. none_and_some (pool_at n (started now)) p e (h.home.cells n p k).0))
+    ] in
+    cases (pool_at n (started now)) refl in
     let table : IsSomeAnd b.table (λ (v : TableView). v.state ≡ table_of now) = elim h.home.board [ inl i ↦ i.0 | inr o ↦ absurd (nobody o.1.ticket o.1.row o.1.at) ] in
     (h.home.apart, found, table)
 
