@@ -5,11 +5,13 @@ use Rattle.std.specs.Prelude.{Some as Just, None, is_some, option_map, IfSome}
 use Rattle.std.proofs.lemmas.Bool.Decides.{nat_tests}
 use Rattle.st_wants.specs.declared.row.LockRow.{LockRow}
 use Rattle.st_wants.specs.declared.want.Want.{Want}
+use Rattle.st_wants.specs.declared.want.Want.TheVariants.{Some, All}
+use Rattle.st_wants.specs.declared.want.Mode.TheVariants.{Read, Write}
 use Rattle.st_wants.specs.Lock.{Lock, row_at, has_ticket, new_row, marked, arrived, granted, released, IsFree}
 use Rattle.st_wants.specs.Rules.{Arrive, Grant, Release}
 use Rattle.st_grants.proofs.Lookups.{ticket_of}
 use Rattle.st_grants.proofs.Sound.{IsSound, sound_step, row_push, row_keep, row_marked, row_marks, row_gone, row_stays, row_left}
-use Rattle.st_book.specs.Effects.{takes_table, table_left, table_given}
+use Rattle.st_book.specs.Effects.{IsFitting, takes_table, table_left, table_given}
 use Rattle.st_book.specs.Rooms.{HasRoom, TableIsPlaced, waiting, events_due}
 use Rattle.st_book.specs.Stands.{TableIsHome, TableIsOut}
 use Rattle.st_book.specs.View.{or_zero}
@@ -278,3 +280,10 @@ left_and_given f want table =
 
 pub left_kept : {A : Type 0} (P : A → Type 0) (want : Want) (table : Option A) → IfSome table P → IfSome (table_left want table) P
 left_kept P want table h = let cases : (b : Bool) → IfSome (cond b None table) P = elim [ true ↦ tt | false ↦ h ] in cases (takes_table want)
+
+-- a table comes back just of a want that takes it
+pub fitting_table : (want : Want) (cells : ℕ) (table : Bool) → IsFitting want cells table → takes_table want ≡ table
+fitting_table (Some n Write) cells table h = sym h.1
+fitting_table (Some n Read) cells table h = sym h.1
+fitting_table (All Write) cells table h = sym h
+fitting_table (All Read) cells table h = sym h.1
