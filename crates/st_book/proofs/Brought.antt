@@ -1,5 +1,5 @@
 -- cells that come back, one after the other
-use Rattle.std.proofs.Common.{ℕ, ◌≡◌, ◌+◌, length, Bool, true, false, List, [], ◌∷◌, ◌++◌, map, Option, Some, refl, ap, sym, ◌∙◌, append_assoc, arith}
+use Rattle.std.proofs.Common.{◌≡◌, Bool, false, List, [], ◌∷◌, ◌++◌, map, Some, ap, ◌∙◌, append_assoc}
 use Rattle.std.specs.Prelude.{slice_get, remove}
 use Rattle.std.specs.List.{AllByRecursion}
 use Rattle.std.specs.Str.{bytes_eq}
@@ -8,7 +8,6 @@ use Rattle.st_model.specs.declared.state.PoolState.{PoolState}
 use Rattle.st_model.specs.Look.{Text}
 use Rattle.st_model.specs.steps.EngineStateReport.{pool_info}
 use Rattle.st_book.specs.Effects.{info_at}
-use Rattle.st_book.specs.Stands.{AreNamedApart}
 
 -- the kept info of each cell that has no spare shows its state
 abbrev pub HaveInfos : {A : Type 0} → (A → Bool) → (A → Text) → (A → PoolState) → List PoolInfo → List A → Type 0

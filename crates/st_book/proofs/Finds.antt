@@ -1,5 +1,5 @@
 -- what a search of a list finds, and the list with that taken out or with another in its place
-use Rattle.std.proofs.Common.{ℕ, zero, suc, ◌≡◌, ◌+◌, length, Bool, true, false, cond, List, [], ◌∷◌, ◌++◌, map, take, set, Option, Some, None, refl, ap, sym, ◌∙◌, subst, arith}
+use Rattle.std.proofs.Common.{ℕ, zero, suc, ◌≡◌, ◌+◌, Bool, true, false, cond, List, [], ◌∷◌, ◌++◌, map, take, set, Some, None, refl, ap, sym, ◌∙◌, subst, arith}
 use Rattle.std.specs.Prelude.{find, slice_get, remove}
 use Rattle.std.specs.List.{AllByRecursion, sum_by}
 use Rattle.std.proofs.lemmas.List.Sums.{sum_by-cons}
@@ -94,7 +94,6 @@ pub all_out : {A : Type 0} (P : A → Type 0) (xs : List A) (i : ℕ) (x : A) �
 all_out P [] i x at h = absurd cc
 all_out P (y ∷ ys) zero x at h = let same : y ≡ x = cc in (subst P same h.0, h.1)
 all_out P (y ∷ ys) (suc i) x at h = let r = all_out P ys i x at h.1 in (r.0, (h.0, r.1))
-
 
 -- an info put in its own place changes nothing
 pub same_in : (x : PoolInfo) (xs : List PoolInfo) → info_at x.name xs ≡ Some x → renewed x xs ≡ xs

@@ -1,5 +1,5 @@
 -- The memory that is kept ready, and the place of the table, after an arrival, a grant and a release.
-use Rattle.std.proofs.Common.{ℕ, ◌≡◌, ◌≢◌, ◌+◌, ◌*◌, ◌<◌, ◌≤◌, ◌==◌, ◌⊎◌, inl, inr, Bool, true, false, not, ◌||◌, cond, List, [], ◌∷◌, ◌++◌, map, filter, length, Option, refl, ap, sym, ◌∙◌, subst, arith, length-append}
+use Rattle.std.proofs.Common.{ℕ, ◌≡◌, ◌≢◌, ◌+◌, ◌*◌, ◌<◌, ◌≤◌, ◌==◌, inl, inr, Bool, true, false, not, ◌||◌, cond, List, [], ◌∷◌, ◌++◌, map, filter, length, Option, refl, ap, sym, ◌∙◌, subst, arith, length-append}
 use Rattle.std.proofs.lemmas.List.{length-map}
 use Rattle.std.specs.Prelude.{Some as Just, None, is_some, option_map, IfSome}
 use Rattle.std.proofs.lemmas.Bool.Decides.{nat_tests}
@@ -12,7 +12,7 @@ use Rattle.st_wants.specs.Rules.{Arrive, Grant, Release}
 use Rattle.st_grants.proofs.Lookups.{ticket_of}
 use Rattle.st_grants.proofs.Sound.{IsSound, sound_step, row_push, row_keep, row_marked, row_marks, row_gone, row_stays, row_left}
 use Rattle.st_book.specs.Effects.{IsFitting, takes_table, table_left, table_given}
-use Rattle.st_book.specs.Rooms.{HasRoom, TableIsPlaced, waiting, events_due}
+use Rattle.st_book.specs.Rooms.{HasRoom, TableIsPlaced, waiting}
 use Rattle.st_book.specs.Stands.{TableIsHome, TableIsOut}
 use Rattle.st_book.specs.View.{or_zero}
 use Rattle.st_book.proofs.Named.{none_and_some}
@@ -138,12 +138,15 @@ placed_granted t rows own there at h =
 placed_one : (t : ℕ) (rows : List LockRow) (own : LockRow) (there : Bool) → row_at t rows ≡ Just own → takes_table own.want ≡ false → TableIsPlaced there rows → TableIsPlaced there (rows_left t rows)
 placed_one t rows own there at leaves h = elim h [
   | inl i ↦ inl (i.0, λ u r k live. i.1 u r (row_left t u rows r k) live)
-  | inr o ↦ inr (o.0, let ne : t ≢ o.1.ticket = λ e.
-      let at' : row_at t rows ≡ Just o.1.row = subst (λ z. row_at z rows ≡ Just o.1.row) (sym e) o.1.at in
-      let same : own ≡ o.1.row = cc in
-      let no : false ≡ true = sym leaves ∙ (ap (λ (z : LockRow). takes_table z.want) same ∙ o.1.takes) in
-      cc in
-    record { ticket = o.1.ticket; row = o.1.row; at = row_stays t o.1.ticket rows o.1.row ne o.1.at; live = o.1.live; takes = o.1.takes })
+  | inr o ↦ inr (
+    o.0,
+    let ne : t ≢ o.1.ticket = λ e.
+        let at' : row_at t rows ≡ Just o.1.row = subst (λ z. row_at z rows ≡ Just o.1.row) (sym e) o.1.at in
+        let same : own ≡ o.1.row = cc in
+        let no : false ≡ true = sym leaves ∙ (ap (λ (z : LockRow). takes_table z.want) same ∙ o.1.takes) in
+        cc in
+        record { ticket = o.1.ticket; row = o.1.row; at = row_stays t o.1.ticket rows o.1.row ne o.1.at; live = o.1.live; takes = o.1.takes },
+  )
 ]
 
 -- no other live ticket has the table

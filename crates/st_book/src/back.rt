@@ -64,7 +64,11 @@ fn renew<C: Cell>(infos: &mut InfoList<C::Info>, cell: &mut C)
 }
 
 /// Puts the cell of a part, if it has one, with those at home, and its newer info in place of the older one.
-pub(crate) fn bring_one<C: Cell>(cells: &mut Cells<C>, infos: &mut InfoList<C::Info>, part: Cells<C>)
+pub(crate) fn bring_one<C: Cell>(
+    cells: &mut Cells<C>,
+    infos: &mut InfoList<C::Info>,
+    part: Cells<C>,
+)
     requires few { length part.items ≤ 1 }
     requires fits { length cells.old.items + length part.items ≤ 16 }
     requires places { 16 ≤ length cells.old.items + cells.old.room }

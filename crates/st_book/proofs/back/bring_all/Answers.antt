@@ -1,6 +1,5 @@
-use Rattle.std.proofs.Common.{◌≡◌, ◌+◌, ◌≤◌, ◌++◌, ◌∷◌, map, length, sym, ap, ◌∙◌, subst, arith}
+use Rattle.std.proofs.Common.{◌≡◌, ◌++◌, ◌∷◌, map, length, sym, ap, ◌∙◌, subst, arith}
 use Rattle.std.specs.List.{AllByRecursion, sum_by}
-use Rattle.std.specs.Prelude.{remove}
 use Rattle.std.proofs.lemmas.List.Sums.{sum_by-cons}
 use Rattle.std.proofs.lemmas.Map.Keys.{IsDistinct-head, IsDistinct-tail}
 use Rattle.st_model.specs.steps.EngineStateReport.{pool_info}
@@ -26,8 +25,7 @@ loop-preserved g c =
           let was = c.loop.invariant.infos h apart in
           let have : HaveInfos g.C.Cell.has_spare g.C.Named.named g.C.Cell.state (map g.C.Cell.shows c.loop.infos.items) (cell ∷ after) = subst (λ z. HaveInfos g.C.Cell.has_spare g.C.Named.named g.C.Cell.state (map g.C.Cell.shows c.loop.infos.items) z) rest was.1 in
           let named : AreNamedApart (map g.C.Cell.state (cell ∷ after)) = subst (λ z. AreNamedApart (map g.C.Cell.state z)) rest was.2 in
-          let shown : map g.C.Cell.shows c.loop.fresh.items ++ map pool_info (map g.C.Cell.state (cell ∷ after)) ≡ map pool_info (map g.C.Cell.state c.args.part.items) = subst (λ z. map g.C.Cell.shows c.loop.fresh.items ++ map pool_info (map g.C.Cell.state z) ≡ map pool_info (map g.C.Cell.state c.args.part.items)) rest was.0 in
-          (
+          let shown : map g.C.Cell.shows c.loop.fresh.items ++ map pool_info (map g.C.Cell.state (cell ∷ after)) ≡ map pool_info (map g.C.Cell.state c.args.part.items) = subst (λ z. map g.C.Cell.shows c.loop.fresh.items ++ map pool_info (map g.C.Cell.state z) ≡ map pool_info (map g.C.Cell.state c.args.part.items)) rest was.0 in (
             moved_on (map g.C.Cell.shows c.loop.fresh.items) (map pool_info (map g.C.Cell.state after)) _ _ (pool_info (g.C.Cell.state cell)) (c.bring_next.ensures.fresh have.0) shown,
             have_still g.C.Cell.has_spare g.C.Named.named g.C.Cell.state g.met.C.Cell.name_is cell _ _ after c.bring_next.ensures.others (IsDistinct-head _ _ _ named) have.1,
             IsDistinct-tail _ _ _ named,

@@ -1,4 +1,4 @@
-use Rattle.std.proofs.Common.{◌≡◌, ◌+◌, ◌<◌, true, None, length, map, take, sym, arith}
+use Rattle.std.proofs.Common.{◌≡◌, true, None, map, take, sym, arith}
 use Rattle.std.proofs.lemmas.List.Edits.{length-remove}
 use Rattle.std.proofs.lemmas.Option.{slice_get_within}
 use Rattle.st_book.specs.Effects.{is_info_of, info_at}

@@ -1,11 +1,11 @@
-use Rattle.std.proofs.Common.{◌≡◌, ◌+◌, ◌-◌, ◌*◌, ◌<◌, ◌≤◌, ◌^◌, true, false, length, map, min, vec_len, vec_capacity, cond, refl, sym, ap, ◌∙◌, arith}
+use Rattle.std.proofs.Common.{◌≡◌, ◌+◌, ◌-◌, ◌<◌, ◌≤◌, false, length, map, vec_len, vec_capacity, cond, refl, ap, ◌∙◌, arith}
 use Rattle.std.specs.Prelude.{is_some, option_map}
 use Rattle.std.specs.List.{sum_by}
 use Rattle.std.proofs.lemmas.List.Edits.{length-remove}
 use Rattle.st_wants.specs.declared.row.LockRow.{LockRow}
 use Rattle.st_wants.specs.Lock.{row_at}
 use Rattle.st_grants.proofs.Sound.{some_and}
-use Rattle.st_book.specs.Effects.{cells_left, cells_given, table_left, table_given, takes_table, infos_given, table_info_given}
+use Rattle.st_book.specs.Effects.{cells_given, table_left, table_given, takes_table, infos_given, table_info_given}
 use Rattle.st_book.specs.View.{TableView, or_zero}
 use Rattle.st_book.proofs.Roomed.{kept_granted, waiting_some, left_there, left_viewed, given_viewed, left_and_given, left_kept}
 use Rattle.st_book.proofs.Standing.{stands_granted, part_given, part_shown, lent_number}
@@ -40,8 +40,7 @@ invariant_of-self g c =
     let spare : length c.self.inside.spares.items ≤ length c.take_at-cells.new.self.items + 1 = omega (arith, spares) in
     let lent : vec_capacity c.self.inside.lent - vec_len c.self.inside.lent ≤ (vec_capacity c.push.new.self - vec_len c.push.new.self) + 1 = omega (arith, c.in-Ok.ensures.capacity, c.in-Ok.ensures.len) in
     let table : c.take_table-table.new.table ≡ table_left own.0.want c.self.inside.table = rw want at c.take_table-table.ensures.home in
-    let there : is_some c.take_table-table.new.table ≡ cond (takes_table own.0.want) false (is_some c.self.inside.table) = ap is_some table ∙ left_there own.0.want c.self.inside.table in
-    (
+    let there : is_some c.take_table-table.new.table ≡ cond (takes_table own.0.want) false (is_some c.self.inside.table) = ap is_some table ∙ left_there own.0.want c.self.inside.table in (
       rw c.grant.ensures (kept_granted c.self.inside.grants c.args.ticket own.0 _ _ _ _ _ _ _ _ _ _ _ _ _ was.0 own.1 own.2 c.in_ok-can_grant.ensures.ok c.put.ensures.room spare lent c.take_cells-cells.ensures.places there),
       was.1,
       (c.take_cells-cells.ensures.kept was.2).1,

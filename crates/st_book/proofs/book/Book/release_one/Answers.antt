@@ -14,8 +14,7 @@ invariant_of-self g c =
     let lent : vec_capacity c.self.inside.lent - vec_len c.self.inside.lent ≤ vec_capacity c.forget.new.lent - vec_len c.forget.new.lent = omega (arith, c.forget.ensures.capacity, c.forget.ensures.len) in
     let infos : 16 ≤ length c.bring_one.new.infos.items + c.bring_one.new.infos.room = omega (arith, was.0.infos, c.bring_one.ensures.len, c.bring_one.ensures.room) in
     let few : length c.bring_one.new.infos.items ≤ 16 = omega (arith, was.0.few, c.bring_one.ensures.len) in
-    let placed = placed_released c.self.inside.grants c.args.ticket own.0 _ _ _ _ _ _ _ _ was.0 own.1 leaves in
-    (
+    let placed = placed_released c.self.inside.grants c.args.ticket own.0 _ _ _ _ _ _ _ _ was.0 own.1 leaves in (
       rw c.release.ensures (kept_released c.self.inside.grants c.args.ticket own.0 _ _ _ _ _ _ _ _ _ _ _ _ _ _ _ was.0 own.1 own.2 c.put.ensures.room lent c.bring_one.ensures.places infos few was.0.fresh placed),
       was.1,
       c.bring_one.ensures.test was.2 c.requires.kept,
