@@ -1,3 +1,6 @@
+pub mod Finds
+pub mod Brought
+pub mod Roomed
 pub mod Named
 pub mod Pools
 pub mod AtHome

@@ -1,5 +1,5 @@
 -- which memory the book keeps ready, so that grants and releases take none
-use Rattle.std.specs.Prelude.{ℕ, ◌≡◌, ◌+◌, ◌≤◌, ◌⊎◌, Bool, true, false, not, List, [], ◌∷◌, length, filter, is_some, Option}
+use Rattle.std.specs.Prelude.{ℕ, ◌≡◌, ◌+◌, ◌≤◌, ◌⊎◌, Bool, true, false, not, List, length, filter}
 use Rattle.st_wants.specs.declared.row.LockRow.{LockRow}
 use Rattle.st_grants.specs.Order.{IsOrdered}
 use Rattle.st_wants.specs.Lock.{Lock}

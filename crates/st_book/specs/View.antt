@@ -1,5 +1,5 @@
 -- what contracts see of a book
-use Rattle.std.specs.Prelude.{ℕ, ◌+◌, ◌==◌, Bool, List, [], ◌∷◌, filter, Option, Some, None}
+use Rattle.std.specs.Prelude.{ℕ, ◌==◌, Bool, List, filter, Option, Some, None}
 use Rattle.std.specs.List.{sum_by}
 use Rattle.st_wants.specs.Lock.{Lock}
 use Rattle.st_model.specs.declared.info.PoolInfo.{PoolInfo}

@@ -1,4 +1,4 @@
-ghost use Rattle.std.specs.Prelude.{◌≡◌, ◌+◌, ◌≤◌, ◌++◌, true, false, map, length, bytes_eq, option_map, Some, None, IfSome, []};
+ghost use Rattle.std.specs.Prelude.{◌≡◌, ◌+◌, ◌≤◌, ◌<◌, ◌∷◌, ◌++◌, true, false, map, length, bytes_eq, option_map, Some, None, IfSome, []};
 ghost use Rattle.std.specs.List.{AllByRecursion, IsDistinct, sum_by};
 ghost use Rattle.st_model.specs.Parts.{shown_table};
 ghost use Rattle.st_model.specs.steps.EngineStateReport.{pool_info};
@@ -64,7 +64,11 @@ fn renew<C: Cell>(infos: &mut InfoList<C::Info>, cell: &mut C)
 }
 
 /// Puts the cell of a part, if it has one, with those at home, and its newer info in place of the older one.
-pub(crate) fn bring_one<C: Cell>(cells: &mut Cells<C>, infos: &mut InfoList<C::Info>, part: Cells<C>)
+pub(crate) fn bring_one<C: Cell>(
+    cells: &mut Cells<C>,
+    infos: &mut InfoList<C::Info>,
+    part: Cells<C>,
+)
     requires few { length part.items ≤ 1 }
     requires fits { length cells.old.items + length part.items ≤ 16 }
     requires places { 16 ≤ length cells.old.items + cells.old.room }
@@ -102,6 +106,34 @@ fn newest_info<C: Cell>(infos: &mut InfoList<C::Info>, cell: &mut C) -> Option<S
     }
 }
 
+/// Puts a cell with those at home, and its newest info with the fresh ones.
+fn bring_next<C: Cell>(
+    cells: &mut Cells<C>,
+    infos: &mut InfoList<C::Info>,
+    fresh: &mut InfoList<C::Info>,
+    cell: C,
+)
+    requires room { 0 < cells.old.room }
+    requires fresh_room { 0 < fresh.old.room }
+    ensures home { map C.state cells.new.items ≡ map C.state cells.old.items ++ C.state cell ∷ [] }
+    ensures len { length cells.new.items ≡ length cells.old.items + 1 }
+    ensures places { length cells.old.items + cells.old.room ≤ length cells.new.items + cells.new.room }
+    ensures fresh { (C.has_spare cell ≡ false → info_at (C.named cell) (map C.shows infos.old.items) ≡ Some (pool_info (C.state cell)))
+        → map C.shows fresh.new.items ≡ map C.shows fresh.old.items ++ pool_info (C.state cell) ∷ [] }
+    ensures fresh_len { length fresh.new.items ≤ length fresh.old.items + 1 }
+    ensures fresh_places { length fresh.old.items + fresh.old.room ≤ length fresh.new.items + fresh.new.room }
+    ensures others { (n : _) → bytes_eq (C.named cell) n ≡ false → info_at n (map C.shows infos.new.items) ≡ info_at n (map C.shows infos.old.items) }
+    ensures info_places { length infos.new.items + infos.new.room ≡ length infos.old.items + infos.old.room }
+    ensures test { AllByRecursion C.is_kept cells.old.items → C.is_kept cell → AllByRecursion C.is_kept cells.new.items }
+    ensures faults { sum_by C.fault_count cells.new.items ≡ sum_by C.fault_count cells.old.items + C.fault_count cell }
+{
+    let mut cell = cell;
+    if let Some(info) = newest_info(infos, &mut cell) {
+        fresh.put(info);
+    }
+    cells.put(cell);
+}
+
 /// Puts the cells of a part with those at home, and makes the infos anew, of these cells alone.
 pub(crate) fn bring_all<C: Cell>(
     cells: &mut Cells<C>,
@@ -127,11 +159,8 @@ pub(crate) fn bring_all<C: Cell>(
 {
     let mut part = part;
     for _ in 0..part.len() {
-        let mut cell = part.take_at(0);
-        if let Some(info) = newest_info(infos, &mut cell) {
-            fresh.put(info);
-        }
-        cells.put(cell);
+        let cell = part.take_at(0);
+        bring_next(cells, infos, fresh, cell);
     }
     part.finish();
     mem::swap(infos, fresh);

@@ -66,8 +66,8 @@ impl<C: Cell, T: Board> Model for Book<C, T> {
     } };
 
     ghost invariant = { λ b.
-      HasRoom b.grants b.log.room (length b.spares.items) (vec_capacity b.lent - vec_len b.lent) (length b.cells.items + b.cells.room) (length b.infos.items + b.infos.room) (length b.infos.items) b.fresh.room (is_some b.table)
-      × (length b.fresh.items ≡ 0) × AllByRecursion C.is_kept b.cells.items × IfSome b.table T.is_kept };
+        HasRoom b.grants b.log.room (length b.spares.items) (vec_capacity b.lent - vec_len b.lent) (length b.cells.items + b.cells.room) (length b.infos.items + b.infos.room) (length b.infos.items) b.fresh.room (is_some b.table)
+        × (length b.fresh.items ≡ 0) × AllByRecursion C.is_kept b.cells.items × IfSome b.table T.is_kept };
 }
 
 /// The lists that a book begins with.
@@ -198,7 +198,13 @@ impl<C: Cell, T: Board> Book<C, T> {
             return Err((want, NoMemory));
         };
         let tickets = self.grants.outstanding();
-        if let Err(refused) = make_room(alloc, &mut self.log, &mut self.spares, &mut self.lent, tickets) {
+        if let Err(refused) = make_room(
+            alloc,
+            &mut self.log,
+            &mut self.spares,
+            &mut self.lent,
+            tickets,
+        ) {
             return Err((want, refused));
         }
         match self.grants.arrive(seat, copy) {

@@ -1,4 +1,4 @@
-ghost use Rattle.std.specs.Prelude.{◌≡◌, ◌+◌, ◌-◌, ◌^◌, min, filter, not, option_map, vec_capacity};
+ghost use Rattle.std.specs.Prelude.{◌≡◌, ◌≤◌, ◌+◌, ◌-◌, ◌^◌, min, filter, not, option_map, vec_capacity, vec_len};
 ghost use Rattle.std.specs.List.{sum_by};
 ghost use Rattle.st_book.specs.View.{is_lent_to, or_zero};
 
@@ -16,6 +16,7 @@ pub struct Lent {
 pub(crate) fn forget(lent: &mut Vec<Lent>, ticket: u64)
     ensures items { lent.new.items ≡ filter (λ x. not (is_lent_to ticket x)) lent.old.items }
     ensures capacity { vec_capacity lent.new ≡ vec_capacity lent.old }
+    ensures len { vec_len lent.new ≤ vec_len lent.old }
 {
     lent.retain(|x| x.ticket != ticket);
 }

@@ -44,11 +44,7 @@ pub(crate) fn copy_all<I: Drop>(infos: &[Shared<I>], list: &mut InfoList<I>) -> 
 }
 
 /// Copies the info of a name, where there is one, and tells whether no copy was refused.
-fn copy_named<C: Cell>(
-    infos: &[Shared<C::Info>],
-    name: &Name,
-    list: &mut InfoList<C::Info>,
-) -> bool
+fn copy_named<C: Cell>(infos: &[Shared<C::Info>], name: &Name, list: &mut InfoList<C::Info>) -> bool
     requires empty { length list.old.items ≡ 0 }
     requires room { 16 ≤ list.old.room }
     ensures { result ≡ true → map C.shows list.new.items ≡ option_to_list (info_at name.now (map C.shows infos.now)) }
@@ -66,11 +62,7 @@ fn copy_named<C: Cell>(
 }
 
 /// Copies the infos that a want gets, and tells whether no copy was refused.
-fn copy_infos<C: Cell>(
-    want: &Want,
-    infos: &[Shared<C::Info>],
-    list: &mut InfoList<C::Info>,
-) -> bool
+fn copy_infos<C: Cell>(want: &Want, infos: &[Shared<C::Info>], list: &mut InfoList<C::Info>) -> bool
     requires empty { length list.old.items ≡ 0 }
     requires room { 16 ≤ list.old.room }
     requires few { length infos.now ≤ 16 }
@@ -84,10 +76,7 @@ fn copy_infos<C: Cell>(
 }
 
 /// A copy of the table's info, where the want gets it; with whether it wasn't refused.
-fn copy_table_info<T: Board>(
-    want: &Want,
-    info: &Shared<T::Info>,
-) -> (Option<Shared<T::Info>>, bool)
+fn copy_table_info<T: Board>(want: &Want, info: &Shared<T::Info>) -> (Option<Shared<T::Info>>, bool)
     ensures { result.1 ≡ true → option_map T.shows result.0 ≡ table_info_given want.now (T.shows info.now) }
 {
     match want {
