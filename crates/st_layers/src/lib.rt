@@ -8,6 +8,8 @@ mod grants;
 #[cfg(test)]
 mod lines;
 #[cfg(test)]
+mod racks;
+#[cfg(test)]
 mod records;
 #[cfg(test)]
 mod slots;

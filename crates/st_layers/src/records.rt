@@ -136,14 +136,16 @@ const POOL_CHANGES: [Change; 36] = [
     ),
 ];
 
-#[test]
-fn neighbours_of_a_pool_record_are_told_from_records(rt: HostRuntime) -> Result<(), Fail> {
-    let alloc = rt.alloc();
-    let bytes = pool_bytes(alloc, &small_pool(alloc)?)?;
-    assert_eq!(rt; bytes.len(), 88 + 3 * 80 + 2 * 12);
-    for (row, at, width, number, good) in POOL_CHANGES {
-        let fault = pool_fault(alloc, &changed(alloc, bytes.items(), at, width, number)?);
-        let want = if good {
+/// Asserts of each change whether the changed bytes are a record.
+fn pool_neighbours(
+    rt: &impl Abort,
+    alloc: Global,
+    bytes: &[u8],
+    changes: &[Change],
+) -> Result<(), Fail> {
+    for (row, at, width, number, good) in changes {
+        let fault = pool_fault(alloc, &changed(alloc, bytes, *at, *width, *number)?);
+        let want = if *good {
             None
         } else {
             Some(RecFault::NotARecord)
@@ -151,6 +153,14 @@ fn neighbours_of_a_pool_record_are_told_from_records(rt: HostRuntime) -> Result<
         assert_eq!(rt; fault, want, "{row}");
     }
     Ok(())
+}
+
+#[test]
+fn neighbours_of_a_pool_record_are_told_from_records(rt: HostRuntime) -> Result<(), Fail> {
+    let alloc = rt.alloc();
+    let bytes = pool_bytes(alloc, &small_pool(alloc)?)?;
+    assert_eq!(rt; bytes.len(), 88 + 3 * 80 + 2 * 12);
+    pool_neighbours(&rt, alloc, bytes.items(), &POOL_CHANGES)
 }
 
 /// Sixteen devices whose paths have 64 bytes, all blocks of each taken.
@@ -290,7 +300,6 @@ fn small_flex(alloc: Global) -> Result<FlexRec, Fail> {
     })
 }
 
-/// At generation 2.
 const FLEX_CHANGES: [Change; 49] = [
     ("another serial", 0, 8, 9, true),
     ("the next serial is a filesystem's", 8, 8, 3, false),
@@ -355,6 +364,25 @@ const FLEX_CHANGES: [Change; 49] = [
     ("one place twice", 584, 4, 7, false),
 ];
 
+/// Asserts of each change whether the changed bytes are a record of generation 2.
+fn flex_neighbours(
+    rt: &impl Abort,
+    alloc: Global,
+    bytes: &[u8],
+    changes: &[Change],
+) -> Result<(), Fail> {
+    for (row, at, width, number, good) in changes {
+        let fault = flex_fault(alloc, &changed(alloc, bytes, *at, *width, *number)?, 2);
+        let want = if *good {
+            None
+        } else {
+            Some(RecFault::NotARecord)
+        };
+        assert_eq!(rt; fault, want, "{row}");
+    }
+    Ok(())
+}
+
 #[test]
 fn neighbours_of_a_flex_record_are_told_from_records(rt: HostRuntime) -> Result<(), Fail> {
     let alloc = rt.alloc();
@@ -378,15 +406,7 @@ fn neighbours_of_a_flex_record_are_told_from_records(rt: HostRuntime) -> Result<
             "at {generation}"
         );
     }
-    for (row, at, width, number, good) in FLEX_CHANGES {
-        let fault = flex_fault(alloc, &changed(alloc, bytes.items(), at, width, number)?, 2);
-        let want = if good {
-            None
-        } else {
-            Some(RecFault::NotARecord)
-        };
-        assert_eq!(rt; fault, want, "{row}");
-    }
+    flex_neighbours(&rt, alloc, bytes.items(), &FLEX_CHANGES)?;
     for end in 0..bytes.len() {
         let fault = flex_fault(alloc, &bytes.items()[..end], 2);
         assert_eq!(rt; fault, Some(RecFault::NotARecord), "the first {end} bytes");

@@ -1,9 +1,10 @@
 -- How a call of a sparse device ends.
-use Rattle.std.specs.Prelude.{◌≡◌, ℕ, ◌+◌, ◌*◌, ◌/◌, ◌^◌, ◌-◌, min, true, false, List, [], length, Result, is_err, OnOk, OnErr, IfErr, Some}
+use Rattle.std.specs.Prelude.{◌≡◌, ℕ, ◌+◌, ◌*◌, ◌/◌, ◌^◌, ◌-◌, min, true, false, List, [], ◌∷◌, ◌++◌, length, Result, is_err, OnOk, OnErr, IfErr, Some}
 use Rattle.st_rack.specs.Device.{cells, Touched, Written, Synced, Cut}
 use Rattle.st_sparse.specs.Arms.{fails, Met}
 use Rattle.st_sparse.specs.Since.{content, Adds}
 use Rattle.st_sparse.specs.Sparse.{sparse_path, sparse_size, sparse_state, sparse_reads, settled}
+use Rattle.st_sparse.specs.declared.arms.Arm.{Arm}
 use Rattle.st_sparse.specs.declared.kinds.Kind.TheVariants.{Read, Write, Sync}
 use Rattle.st_sparse.specs.declared.kinds.Pick.{Pick}
 use Rattle.st_sparse.specs.declared.kinds.Pick.TheVariants.{New}
@@ -45,6 +46,18 @@ pub record SyncEnds {T E : Type 0} (result : Result T E) (old new : Sparse) : Ty
   pub base : OnOk result (settled new ≡ (sparse_state old).holds)
   pub same_writes : OnErr result (new.since.items ≡ old.since.items)
   pub same_base : OnErr result (settled new ≡ settled old)
+  pub reads : sparse_reads new ≡ sparse_reads old
+  pub path : sparse_path new ≡ sparse_path old
+  pub size : sparse_size new ≡ sparse_size old
+
+-- The device has one more arm, or memory was short; nothing else changes.
+pub record ArmEnds {T E : Type 0} (arm : Arm) (result : Result T E) (old new : Sparse) : Type 0 where
+  pub armed : OnOk result (new.arms.list.items ≡ old.arms.list.items ++ arm ∷ [])
+  pub refused : OnErr result (new.arms.list.items ≡ old.arms.list.items)
+  pub works : new.arms.stopped ≡ old.arms.stopped
+  pub state : sparse_state new ≡ sparse_state old
+  pub writes : new.since.items ≡ old.since.items
+  pub base : settled new ≡ settled old
   pub reads : sparse_reads new ≡ sparse_reads old
   pub path : sparse_path new ≡ sparse_path old
   pub size : sparse_size new ≡ sparse_size old

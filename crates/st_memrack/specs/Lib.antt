@@ -3,3 +3,5 @@ pub mod Blank
 pub mod One
 pub mod Ends
 pub mod MemRack
+pub mod Record
+pub mod Exact

@@ -4,12 +4,24 @@ ghost use Rattle.st_rack.specs.Calls.{Rises, Has, IsWithin};
 ghost use Rattle.st_slabs.specs.Shelf.{rows_of};
 ghost use Rattle.st_sparse.specs.Sparse.{sparse_path, sparse_size};
 ghost use Rattle.st_memrack.specs.One.{OneStep};
-ghost use Rattle.st_memrack.specs.Ends.{ReadEnds, WriteEnds, SyncEnds, CycleEnds};
+ghost use Rattle.st_memrack.specs.Ends.{ArmEnds, ReadEnds, WriteEnds, SyncEnds, CycleEnds};
 
 use st_rack::DevFault;
 use st_slabs::first_of;
-use st_sparse::{Pick, Sparse, WriteFault};
-use st_units::DevPath;
+use st_sparse::{Arm, Pick, Sparse, WriteFault};
+use st_units::{DevPath, NoMemory};
+
+/// Gives a device of the list one more arm.
+pub fn arm_at(devices: &mut Vec<Sparse>, dev: &DevPath, arm: Arm) -> Result<(), NoMemory>
+    requires order { Rises (rows_of sparse_path sparse_size devices.old.items) }
+    requires there { (n : ℕ) × Has (rows_of sparse_path sparse_size devices.old.items) dev.now n }
+    ensures one { OneStep sparse_path (ArmEnds arm result) dev.now devices.old.items devices.new.items }
+    ensures len { vec_len devices.new ≡ vec_len devices.old }
+    ensures capacity { vec_capacity devices.new ≡ vec_capacity devices.old }
+{
+    let i = first_of(devices.as_slice(), dev);
+    devices[i].arm(arm)
+}
 
 /// Reads from a device of the list.
 pub fn read_at(

@@ -4,9 +4,11 @@
 mod calls;
 mod memrack;
 mod nofault;
+mod record;
 mod slab;
 
 pub use memrack::MemRack;
 pub use nofault::NoFaultRack;
+pub use record::{DeviceCall, Record};
 pub use slab::Slab;
 pub use st_sparse::{How, Kind, Pick};

@@ -34,6 +34,10 @@ after_call kind sector sectors a =
     then record { kind = a.kind; first = a.first; last = a.last; skip = a.skip - 1; how = a.how; spent = nat_eq a.skip 0 }
     else a
 
+-- an arm that has met no call yet
+abbrev pub new_arm : Kind → ℕ → ℕ → ℕ → How → Arm
+new_arm kind first last skip how = record { kind = kind; first = first; last = last; skip = skip; how = how; spent = false }
+
 -- it fails every later call too
 abbrev pub stops : Arm → Bool
 stops a = is_stop a.how

@@ -1,11 +1,11 @@
-ghost use Rattle.std.specs.Prelude.{◌≡◌, ◌+◌, ◌*◌, ◌/◌, ◌%◌, ◌^◌, ◌-◌, ◌<◌, ◌≤◌, true, false, min, ℕ, List, [], length, IfOk, IfErr, OnOk, OnErr, is_err, Some, None, if◌then◌else◌};
+ghost use Rattle.std.specs.Prelude.{◌≡◌, ◌+◌, ◌*◌, ◌/◌, ◌%◌, ◌^◌, ◌-◌, ◌<◌, ◌≤◌, ◌++◌, ◌∷◌, true, false, min, ℕ, List, [], length, IfOk, IfErr, OnOk, OnErr, is_err, Some, None, if◌then◌else◌};
 ghost use Rattle.st_sparse.specs.declared.kinds.Pick.TheVariants.{New};
 ghost use Rattle.st_rack.specs.Story.{unsettled};
 ghost use Rattle.st_slabs.specs.Told.{story_of};
 ghost use Rattle.st_sparse.specs.Sectors.{byte_at, is_kept};
 ghost use Rattle.st_sparse.specs.Since.{is_torn};
 
-use crate::arms::Arms;
+use crate::arms::{Arm, Arms};
 use crate::lay::{lay_all_in, lay_all_over};
 use crate::sectors::{Sectors, keep, read_kept};
 use crate::{Kind, Pick, Torn};
@@ -88,6 +88,21 @@ impl Sparse {
             arms: Arms::none(alloc),
             story: Snapshot::of(&Told::Blank),
         })
+    }
+
+    /// One more arm.
+    pub fn arm(&mut self, arm: Arm) -> Result<(), NoMemory>
+        ensures armed { OnOk result (self.new.arms.list.items ≡ self.old.arms.list.items ++ arm ∷ []) }
+        ensures refused { OnErr result (self.new.arms.list.items ≡ self.old.arms.list.items) }
+        ensures works { self.new.arms.stopped ≡ self.old.arms.stopped }
+        ensures state { sparse_state self.new ≡ sparse_state self.old }
+        ensures since { self.new.since ≡ self.old.since }
+        ensures settled { settled self.new ≡ settled self.old }
+        ensures reads { sparse_reads self.new ≡ sparse_reads self.old }
+        ensures path { sparse_path self.new ≡ sparse_path self.old }
+        ensures size { sparse_size self.new ≡ sparse_size self.old }
+    {
+        self.arms.push(arm)
     }
 
     /// Reads whole sectors, and counts the read.
