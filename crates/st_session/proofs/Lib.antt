@@ -1,6 +1,9 @@
 pub mod Begun
 pub mod Laned
 pub mod Logs
+pub mod OneCall
+pub mod Opened
+pub mod Parts
 pub mod Places
 pub mod Printed
 pub mod Runs

@@ -35,17 +35,11 @@ use Rattle.st_session.proofs.Laned.{laned_skip, laned_call, laned_start}
 use Rattle.st_session.proofs.Logs.{call_events, entries_of-call, none_from, is_from-line}
 use Rattle.st_session.proofs.Places.{at_append, at_front, at_back, found_first, found_later}
 
--- a call that ran after a moment in which nothing changed
-pub ran_after : (n : ℕ) (call : Call) (old mid new : SessionView) (place : ℕ) → Stayed old mid → RanCall n call mid new place → RanCall n call old new place
-ran_after n call old mid new place stayed ran = record {
-  entry = ran.entry;
-  entries = ran.entries;
-  alone = ran.alone;
-  is_due = subst (λ (s : EngineState). IsEntryOf s n call ran.entry) stayed.state ran.is_due;
-  state = ran.state ∙ ap (λ (s : EngineState). (step s ran.entry.call ran.entry.env).1) stayed.state;
-  log = ran.log ∙ ap (λ (x : ℕ). mid.log ++ events_of x ran.entries call) stayed.tickets ∙ ap (λ (log : List Event). log ++ events_of old.tickets ran.entries call) stayed.log;
-  tickets = ran.tickets ∙ ap (λ (x : ℕ). x + 1) stayed.tickets;
-  released = ran.released ∙ ap (λ (log : List Event). length log + 2) stayed.log;
+pub stayed : (old new : SessionView) → new ≡ old → Stayed old new
+stayed old new e = record {
+  state = ap (λ (v : SessionView). v.state) e;
+  log = ap (λ (v : SessionView). v.log) e;
+  tickets = ap (λ (v : SessionView). v.tickets) e;
 }
 
 -- before the first line
