@@ -1,6 +1,6 @@
 -- What each call of a rack in memory with faults does, whole: the meaning of a rack is its list of devices, its pick, its counts and
 -- its record.
-use Rattle.std.specs.Prelude.{◌≡◌, ℕ, ◌+◌, ◌-◌, ◌/◌, ◌^◌, min, not, List, [], filter, length, Result, OnOk, IfErr, is_err}
+use Rattle.std.specs.Prelude.{◌≡◌, true, false, ℕ, ◌+◌, ◌-◌, ◌/◌, ◌^◌, min, not, List, [], filter, length, Result, OnOk, IfErr, is_err}
 use Rattle.std.specs.List.{AllZip}
 use Rattle.st_rack.specs.Device.{Path}
 use Rattle.st_rack.specs.Calls.{names}
@@ -69,6 +69,8 @@ pub record Absorbs (old other new : MemRack) : Type 0 where
   pub short_count : new.short ≡ min (old.short + other.short) (2 ^ 64 - 1)
   pub recorded : new.calls.calls.items ≡ old.calls.calls.items
   pub recording : new.calls.on ≡ old.calls.on
+  pub none_missed : old.calls.on ≡ false → new.calls.missed ≡ old.calls.missed
+  pub missed : old.calls.on ≡ true → new.calls.missed ≡ min (old.calls.missed + min (length other.calls.calls.items + other.calls.missed) (2 ^ 64 - 1)) (2 ^ 64 - 1)
 
 pub record Cycles (old new : MemRack) : Type 0 where
   pub devices : AllZip (CycleEnds old.pick) (mem_list old) (mem_list new)
