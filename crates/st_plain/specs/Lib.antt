@@ -1,0 +1,4 @@
+pub mod Created
+pub mod Parts
+pub mod Reported
+pub mod Views
