@@ -1,8 +1,8 @@
 -- one seat that runs one line after the other keeps the lane order
-use Rattle.std.proofs.Common.{◌≡◌, ◌≢◌, ℕ, ◌+◌, ◌==◌, ◌<◌, ◌≤◌, ◌⊎◌, inl, inr, List, [], ◌∷◌, ◌++◌, length, Option, Some, Ok, Bool, true, false, cond, refl, sym, ap, ◌∙◌, subst, arith}
+use Rattle.std.proofs.Common.{◌≡◌, ℕ, ◌+◌, ◌==◌, ◌<◌, ◌≤◌, ◌⊎◌, inl, inr, List, [], ◌∷◌, ◌++◌, length, Some, Bool, true, false, cond, refl, sym, ap, ◌∙◌, subst, arith}
 use Rattle.std.proofs.lemmas.Grind.{common_steps}
 use Rattle.std.proofs.lemmas.Option.{slice_get_within}
-use Rattle.std.specs.Prelude.{slice_get, ◌↔◌}
+use Rattle.std.specs.Prelude.{slice_get}
 use Rattle.st_units.specs.Roomy.{Roomy}
 use Rattle.st_wants.specs.declared.want.Want.{Want}
 use Rattle.st_model.specs.declared.entry.Entry.{Entry}
@@ -11,7 +11,7 @@ use Rattle.st_history.specs.declared.log.Event.TheVariants.{Arrive}
 use Rattle.st_model.specs.declared.entry.Origin.TheVariants.{Line}
 use Rattle.st_calls.proofs.Given.{form-IsCall}
 use Rattle.st_session.specs.Entries.{entries_of, count_from, StandsAt}
-use Rattle.st_session.specs.LaneOrder.{IsLineCall, IsOfLine, LaneOrder}
+use Rattle.st_session.specs.LaneOrder.{IsLineCall, LaneOrder}
 use Rattle.st_session.specs.Going.{IsKnown, IsLaned}
 use Rattle.st_session.proofs.Logs.{call_events, entries_of-call, count_from-call, IsNew, stands_more, arrives_more}
 

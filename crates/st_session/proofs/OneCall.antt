@@ -1,15 +1,14 @@
 -- one call under a grant of its own, over a book that is at home before it and after it
-use Rattle.std.proofs.Common.{ℕ, ◌≡◌, ◌+◌, ◌<◌, ◌≤◌, ◌^◌, ◌==◌, List, [], ◌∷◌, ◌++◌, map, length, filter, Bool, true, false, not, cond, Option, Some, None, option_map, refl, sym, ap, ◌∙◌, subst, arith, append_assoc, lit≤}
+use Rattle.std.proofs.Common.{ℕ, ◌≡◌, ◌+◌, ◌<◌, ◌≤◌, ◌^◌, ◌==◌, List, [], ◌∷◌, ◌++◌, map, length, filter, Bool, true, false, cond, Option, Some, None, option_map, refl, sym, ap, ◌∙◌, subst, arith, append_assoc, lit≤}
 use Rattle.std.proofs.lemmas.Grind.{common_steps}
 use Rattle.std.proofs.lemmas.List.{length-map, length-append}
 use Rattle.std.specs.Prelude.{IfSome, IsSomeAnd, is_some}
 use Rattle.std.specs.List.{AllByRecursion, sum_by}
 use Rattle.st_units.specs.Roomy.{Roomy}
-use Rattle.st_wants.specs.declared.row.LockRow.{LockRow}
 use Rattle.st_wants.specs.declared.want.Want.{Want}
 use Rattle.st_wants.specs.declared.want.Want.TheVariants as wants
 use Rattle.st_wants.specs.declared.want.Mode.TheVariants.{Read, Write}
-use Rattle.st_wants.specs.Lock.{Lock, row_at, new_row, has_ticket, marked, arrived, granted, released}
+use Rattle.st_wants.specs.Lock.{Lock, row_at, new_row, marked, arrived, granted, released}
 use Rattle.st_model.specs.declared.call.Call.{Call}
 use Rattle.st_model.specs.declared.entry.Entry.{Entry}
 use Rattle.st_model.specs.declared.info.PoolInfo.{PoolInfo}
@@ -25,8 +24,8 @@ use Rattle.st_model.specs.Wanted.{want_of}
 use Rattle.st_model.proofs.Validity.{step-IsValid}
 use Rattle.st_history.specs.declared.log.Event.{Event}
 use Rattle.st_history.specs.declared.log.Event.TheVariants.{Arrive, Grant, Release}
-use Rattle.st_history.specs.Failures.{is_failure, failures_of}
-use Rattle.st_history.specs.History.{replay, state_after, idle, AreSteps, AreOneCall, IsOf, IsNotPrepare}
+use Rattle.st_history.specs.Failures.{failures_of}
+use Rattle.st_history.specs.History.{replay, state_after, idle, AreSteps, AreOneCall}
 use Rattle.st_history.proofs.Short.{built-not_short}
 use Rattle.st_history.proofs.Snoc.{replay-snoc}
 use Rattle.st_book.specs.Effects.{IsFitting, info_at}
@@ -34,7 +33,7 @@ use Rattle.st_book.specs.Stands.{Stands, PartStands, PartShows, ComesBack}
 use Rattle.st_book.specs.View.{BookView, lent_at, or_zero}
 use Rattle.st_book.proofs.Released.{part_fits}
 use Rattle.st_plain.specs.Views.{CellView, TableView, pools_of}
-use Rattle.st_session.specs.OnPart.{plain_view, IsEntryOf, IsShown, IsTableShown, IsRun}
+use Rattle.st_session.specs.OnPart.{plain_view, IsShown, IsTableShown, IsRun}
 use Rattle.st_session.specs.Running.{events_of, RanCall}
 use Rattle.st_session.specs.View.{SessionView, IsStanding}
 
@@ -108,6 +107,7 @@ no_sum cells table = nothing_in table ∙ zeros cells
     zeros : (cs : List CellView) → sum_by (λ (x : CellView). 0) cs ≡ 0
     zeros [] = refl
     zeros (c ∷ cs) = zeros cs
+
     nothing_in : (o : Option TableView) → or_zero (option_map (λ (x : TableView). 0) o) + sum_by (λ (x : CellView). 0) cells ≡ sum_by (λ (x : CellView). 0) cells
     nothing_in None = omega arith
     nothing_in (Some x) = omega arith
@@ -128,6 +128,7 @@ fits_want (wants.Some n Write) s cells table h = (at_most_one cells (pool_at n (
     at_most_one (c ∷ []) o k = lit≤ tt
     at_most_one (c ∷ d ∷ cs) None k = absurd cc
     at_most_one (c ∷ d ∷ cs) (Some p) k = absurd cc
+
     no_table : (o : Option TableView) → option_map plain_view o ≡ None → is_some o ≡ false
     no_table None k = refl
     no_table (Some x) k = absurd cc
@@ -136,6 +137,7 @@ fits_want (wants.Some n Read) s cells table h = (none cells h.0, no_table table 
     none : (cs : List CellView) → pools_of cs ≡ [] → length cs ≡ 0
     none [] k = refl
     none (c ∷ cs) k = absurd cc
+
     no_table : (o : Option TableView) → option_map plain_view o ≡ None → is_some o ≡ false
     no_table None k = refl
     no_table (Some x) k = absurd cc
@@ -149,6 +151,7 @@ fits_want (wants.All Read) s cells table h = (none cells h.0, no_table table h.1
     none : (cs : List CellView) → pools_of cs ≡ [] → length cs ≡ 0
     none [] k = refl
     none (c ∷ cs) k = absurd cc
+
     no_table : (o : Option TableView) → option_map plain_view o ≡ None → is_some o ≡ false
     no_table None k = refl
     no_table (Some x) k = absurd cc

@@ -1,10 +1,10 @@
 -- a session as it begins
-use Rattle.std.proofs.Common.{ℕ, ◌≡◌, List, [], refl, sym, ap, ◌∙◌, subst}
+use Rattle.std.proofs.Common.{◌≡◌, [], sym, ap, ◌∙◌}
 use Rattle.st_wants.specs.Lock.{Lock, start}
 use Rattle.st_model.specs.declared.state.EngineState.{EngineState}
 use Rattle.st_model.specs.Parts.{started, table_of}
 use Rattle.st_model.specs.Valid.{IsValid}
-use Rattle.st_history.specs.History.{replay, idle}
+use Rattle.st_history.specs.History.{idle}
 use Rattle.st_book.specs.Stands.{Stands}
 use Rattle.st_book.specs.View.{BookView}
 use Rattle.st_plain.specs.Views.{TableView}

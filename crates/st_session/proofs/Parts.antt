@@ -1,5 +1,5 @@
 -- what a call makes of the part that its ticket holds
-use Rattle.std.proofs.Common.{ℕ, ◌≡◌, ◌==◌, ◌⊎◌, inl, inr, List, [], ◌∷◌, map, Bool, true, false, Option, Some, None, option_map, cond, Result, Ok, Err, refl, sym, ap, ◌∙◌, subst}
+use Rattle.std.proofs.Common.{ℕ, ◌≡◌, inl, inr, List, [], ◌∷◌, map, Bool, true, false, Option, Some, None, option_map, cond, Result, Ok, Err, refl, sym, ◌∙◌}
 use Rattle.std.proofs.lemmas.Slice.Eq.{bytes_eq-Decides}
 use Rattle.std.specs.Prelude.{IfOk, OnErr, IfSome, IsSome, IsSomeAnd}
 use Rattle.std.specs.List.{AllByRecursion, IsDistinct}
@@ -19,15 +19,15 @@ use Rattle.st_model.specs.Answer.{refused}
 use Rattle.st_model.specs.Look.{Text}
 use Rattle.st_model.specs.declared.state.PoolState.{PoolState}
 use Rattle.st_model.specs.Parts.{pool_at, started, table_of, shown_table}
-use Rattle.st_model.specs.Step.{step, is_built, IsLicensed}
+use Rattle.st_model.specs.Step.{step, is_built}
 use Rattle.st_model.specs.Valid.{IsValid}
 use Rattle.st_model.specs.Wanted.{want_of}
 use Rattle.st_model.proofs.Built.{built-MayRun}
-use Rattle.st_model.proofs.Codes.{plain-no_failure, no_memory-no_failure}
+use Rattle.st_model.proofs.Codes.{plain-no_failure}
 use Rattle.st_book.specs.Stands.{AreNamedApart, PartStands, PartShows}
 use Rattle.st_plain.specs.Parts.{PartIs, InfosAre, IsAnswered, CellIsShown, TableIsShown}
 use Rattle.st_plain.specs.Views.{CellView, TableView, pools_of}
-use Rattle.st_session.specs.OnPart.{plain_view, IsEntryOf, IsShown, IsTableShown, IsLeft, IsRun}
+use Rattle.st_session.specs.OnPart.{plain_view, IsShown, IsTableShown, IsLeft, IsRun}
 
 cell_shown : (s : EngineState) (c : CellView) → CellIsShown s c → IsShown s c
 cell_shown s c (inl e) none = absurd cc
@@ -78,7 +78,7 @@ not_short false info i h e = refl
 pub reported : (answer : Result Reply NoMemory) (cells : List CellView) (table : Option TableView) (short : Bool) (info : Option TableInfo) (infos : List PoolInfo) → (short ≡ true → info ≡ None)
     → IfOk answer (λ reply. IsSomeAnd info (λ i. (s : EngineState) → IsValid s → i ≡ shown_table (table_of s) → InfosAre s infos → reply ≡ (step s EngineStateReport Plain).0))
     → IfOk answer (λ reply. (s : EngineState) → IsValid s → PartStands (want_of EngineStateReport) s (pools_of cells) (option_map plain_view table)
-        → (short ≡ false → PartShows (want_of EngineStateReport) s infos info) → IsLeft s EngineStateReport reply cells table)
+    → (short ≡ false → PartShows (want_of EngineStateReport) s infos info) → IsLeft s EngineStateReport reply cells table)
 reported (Err e) cells table short info infos whole h = tt
 reported (Ok reply) cells table short None infos whole h = absurd h
 reported (Ok reply) cells table short (Some i) infos whole h = λ s valid stands shows.
@@ -100,9 +100,11 @@ own_found s (c ∷ cells) h = (first (bytes_eq c.pool.name c.pool.name) ((bytes_
     first : (b : Bool) → b ≡ true → cond b (Some c.pool) (pool_at c.pool.name (pools_of cells)) ≡ Some c.pool
     first true e = refl
     first false e = absurd cc
+
     later : (n : Text) (b : Bool) (o : Option PoolState) (p : PoolState) → b ≡ false → o ≡ Some p → cond b (Some c.pool) o ≡ Some p
     later n true o p e h = absurd cc
     later n false o p e h = h
+
     behind : (ds es : List CellView) → AllByRecursion (λ (n : Text). bytes_eq c.pool.name n ≡ false) (map (λ (p : PoolState). p.name) (pools_of ds)) → AllByRecursion (λ (d : CellView). pool_at d.pool.name (pools_of es) ≡ Some d.pool) ds
         → AllByRecursion (λ (d : CellView). pool_at d.pool.name (pools_of (c ∷ es)) ≡ Some d.pool) ds
     behind [] es g k = tt

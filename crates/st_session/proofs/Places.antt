@@ -1,5 +1,5 @@
 -- what stands at a place of two lists joined
-use Rattle.std.proofs.Common.{◌≡◌, ℕ, zero, suc, ◌+◌, ◌<◌, ◌⊎◌, inl, inr, List, [], ◌∷◌, ◌++◌, length, drop, Option, Some, None, Bool, true, false, cond, refl, sym, ap, ◌∙◌, subst, arith}
+use Rattle.std.proofs.Common.{◌≡◌, ℕ, zero, suc, ◌+◌, ◌⊎◌, inl, inr, List, [], ◌∷◌, ◌++◌, length, drop, Some, None, Bool, true, false, cond, refl, ap, arith}
 use Rattle.std.specs.Prelude.{slice_get, find}
 
 module _ {X : Type 0} where

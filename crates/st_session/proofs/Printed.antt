@@ -1,9 +1,9 @@
 -- printing, piece by piece
-use Rattle.std.proofs.Common.{◌≡◌, ℕ, ◌+◌, ◌≤◌, List, [], ◌∷◌, ◌++◌, length, take, drop, Bool, true, false, cond, Option, Some, None, Result, Ok, Err, refl, sym, ap, ◌∙◌, subst, arith, append-nil, append_assoc, take-append-drop}
+use Rattle.std.proofs.Common.{◌≡◌, ℕ, List, [], ◌++◌, take, drop, Option, Result, Ok, Err, refl, sym, ap, ◌∙◌, subst, append-nil, append_assoc, take-append-drop}
 use Rattle.std.specs.Prelude.{OnOk, OnErr}
 use Rattle.std.specs.Io.KnownBytes.{Appends}
 use Rattle.st_lines.proofs.Known.{Appends-start, Appends-more}
-use Rattle.st_session.specs.Printing.{Printing, Started, Prints, Stops}
+use Rattle.st_session.specs.Printing.{Printing, Started}
 
 pub printing_start : (held : Option (List ℕ)) (whole : List ℕ) → Printing held held [] whole whole
 printing_start held whole = record { written = []; took = Appends-start held; makes = refl }

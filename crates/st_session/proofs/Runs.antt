@@ -1,13 +1,11 @@
 -- what a run has done when its lines have run
-use Rattle.std.proofs.Common.{◌≡◌, ℕ, List, [], Bool, Option, Some, None, refl, sym, ap, ◌∙◌, subst}
-use Rattle.std.specs.Io.KnownBytes.{Appends}
+use Rattle.std.proofs.Common.{◌≡◌, ℕ, List, [], Bool, Option, Some, None, refl, ap, subst}
 use Rattle.st_rack.specs.Calls.{Devices}
 use Rattle.st_wants.specs.Lock.{Lock}
 use Rattle.st_lines.specs.Lines.{lines_of}
 use Rattle.st_lines.proofs.Known.{Appends-start}
 use Rattle.st_history.specs.declared.log.Event.{Event}
 use Rattle.st_model.specs.declared.state.EngineState.{EngineState}
-use Rattle.st_session.specs.declared.session.Answer.{Answer}
 use Rattle.st_session.specs.View.{SessionView}
 use Rattle.st_session.specs.Going.{IsGoing}
 use Rattle.st_session.specs.Headline.{AreLinesOf, IsRunOf}

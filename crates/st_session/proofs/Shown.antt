@@ -1,16 +1,13 @@
 -- the output in the words of the answers is that in the words of the lines
-use Rattle.std.proofs.Common.{◌≡◌, ℕ, zero, suc, ◌+◌, List, [], ◌∷◌, ◌++◌, length, Bool, true, false, cond, Option, Some, None, Result, Ok, Err, refl, sym, ap, ◌∙◌, subst, arith}
+use Rattle.std.proofs.Common.{◌≡◌, ℕ, suc, ◌+◌, List, [], ◌∷◌, length, Bool, Some, refl, subst, arith}
 use Rattle.std.specs.Prelude.{slice_get}
-use Rattle.st_model.specs.declared.call.Call.{Call}
-use Rattle.st_model.specs.declared.entry.Entry.{Entry}
 use Rattle.st_history.specs.declared.log.Event.{Event}
-use Rattle.st_calls.specs.declared.fault.LineFault.{LineFault}
 use Rattle.st_calls.specs.Form.{form}
 use Rattle.st_session.specs.declared.session.Answer.{Answer}
 use Rattle.st_session.specs.declared.session.Answer.TheVariants.{Ran, Fault, Refused}
 use Rattle.st_session.specs.Entries.{entries_of, entry_of}
-use Rattle.st_session.specs.Out.{answer_line, replies_from, is_ok, ok_from, trace_of, summary, out}
-use Rattle.st_session.specs.Printing.{entry_line, shown_line, shown_ok, IsShown, AreShown, shown_from, shown_oks, whole}
+use Rattle.st_session.specs.Out.{answer_line, replies_from, is_ok, ok_from, out}
+use Rattle.st_session.specs.Printing.{shown_line, shown_ok, IsShown, AreShown, shown_from, shown_oks, whole}
 use Rattle.st_session.specs.Running.{IsAnswer, AreAnswers}
 
 -- what one answer shows is what line n shows

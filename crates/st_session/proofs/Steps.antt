@@ -1,36 +1,32 @@
 -- from line to line
-use Rattle.std.proofs.Common.{◌≡◌, ℕ, zero, suc, ◌+◌, ◌==◌, ◌<◌, ◌≤◌, ◌⊎◌, inl, inr, List, [], ◌∷◌, ◌++◌, length, Option, Some, None, Ok, Err, Bool, true, false, cond, refl, sym, ap, ◌∙◌, subst, arith}
+use Rattle.std.proofs.Common.{◌≡◌, ℕ, zero, suc, ◌+◌, ◌==◌, ◌<◌, ◌≤◌, ◌⊎◌, inl, inr, List, [], ◌∷◌, ◌++◌, length, Some, None, Ok, Bool, true, false, cond, refl, sym, ap, ◌∙◌, subst, arith}
 use Rattle.std.proofs.lemmas.Grind.{common_steps}
 use Rattle.std.proofs.lemmas.Option.{slice_get_within}
-use Rattle.std.specs.Prelude.{slice_get, find}
+use Rattle.std.specs.Prelude.{slice_get}
 use Rattle.st_units.specs.Roomy.{Roomy}
 use Rattle.st_wants.specs.Lock.{Lock, start}
 use Rattle.st_wants.specs.Rules.{lock_run}
 use Rattle.st_model.specs.declared.call.Call.{Call}
 use Rattle.st_model.specs.declared.entry.Entry.{Entry}
 use Rattle.st_history.specs.declared.log.Event.{Event}
-use Rattle.st_history.specs.declared.log.Event.TheVariants.{Release}
-use Rattle.st_model.specs.declared.entry.Origin.{Origin}
 use Rattle.st_model.specs.declared.entry.Origin.TheVariants.{Line}
 use Rattle.st_model.specs.declared.state.EngineState.{EngineState}
-use Rattle.st_history.specs.History.{moves_of, replay, AreSteps, AreOneCall, IsNotPrepare, IsShort, HistoryFrom, History, idle}
-use Rattle.st_model.specs.Step.{step, is_built}
+use Rattle.st_history.specs.History.{moves_of, replay, IsNotPrepare, HistoryFrom, History, idle}
+use Rattle.st_model.specs.Step.{is_built}
 use Rattle.st_model.specs.Valid.{IsValid}
 use Rattle.st_model.specs.Wanted.{want_of}
 use Rattle.st_history.proofs.Short.{built-not_short}
 use Rattle.st_history.proofs.Histories.{history-append, lock_run-append, replay-append, one_call, one_call-idle, one_call-state}
 use Rattle.st_model.proofs.Validity.{step-IsValid}
-use Rattle.st_calls.specs.declared.fault.LineFault.{LineFault}
 use Rattle.st_calls.specs.Form.{form}
 use Rattle.st_calls.proofs.Given.{form-IsCall}
 use Rattle.st_session.specs.declared.session.Answer.{Answer}
 use Rattle.st_session.specs.declared.session.Answer.TheVariants.{Ran, Fault, Refused}
 use Rattle.st_session.specs.View.{SessionView}
-use Rattle.st_session.specs.Entries.{entries_of, is_from, entry_of, count_from}
+use Rattle.st_session.specs.Entries.{entries_of, is_from, entry_of}
 use Rattle.st_session.specs.LaneOrder.{IsLineCall}
-use Rattle.st_session.specs.OnPart.{IsEntryOf}
 use Rattle.st_session.specs.Running.{events_of, RanCall, Stayed, Answered, IsAnswer, AreAnswers}
-use Rattle.st_session.specs.Going.{IsGoing, IsLaned}
+use Rattle.st_session.specs.Going.{IsGoing}
 use Rattle.st_session.proofs.Laned.{laned_skip, laned_call, laned_start}
 use Rattle.st_session.proofs.Logs.{call_events, entries_of-call, none_from, is_from-line}
 use Rattle.st_session.proofs.Places.{at_append, at_front, at_back, found_first, found_later}

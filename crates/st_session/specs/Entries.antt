@@ -1,5 +1,5 @@
 -- the entries of a log
-use Rattle.std.specs.Prelude.{ℕ, ◌≡◌, ◌+◌, ◌==◌, List, [], ◌∷◌, ◌++◌, Bool, true, false, Option, Some, find, slice_get, if◌then◌else◌}
+use Rattle.std.specs.Prelude.{ℕ, ◌≡◌, ◌+◌, ◌==◌, List, [], ◌∷◌, ◌++◌, Bool, false, Option, Some, find, slice_get, if◌then◌else◌}
 use Rattle.st_units.specs.Roomy.{Roomy}
 use Rattle.st_model.specs.declared.entry.Entry.{Entry}
 use Rattle.st_history.specs.declared.log.Event.{Event}

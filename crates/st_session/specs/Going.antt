@@ -1,5 +1,5 @@
 -- what holds while lines run, one after the other, by one seat
-use Rattle.std.specs.Prelude.{ℕ, ◌≡◌, ◌<◌, ◌≤◌, List, [], Some, slice_get}
+use Rattle.std.specs.Prelude.{ℕ, ◌≡◌, ◌<◌, ◌≤◌, List, Some, slice_get}
 use Rattle.st_wants.specs.declared.want.Want.{Want}
 use Rattle.st_wants.specs.Lock.{start}
 use Rattle.st_wants.specs.Rules.{lock_run}

@@ -1,5 +1,5 @@
 -- what a run does: the clause that the program's own call carries
-use Rattle.std.specs.Prelude.{ℕ, ◌≡◌, ◌≤◌, List, [], Bool, Option, Some, None}
+use Rattle.std.specs.Prelude.{ℕ, ◌≡◌, List, [], Bool, Option, Some, None}
 use Rattle.std.specs.Io.KnownBytes.{Appends}
 use Rattle.st_rack.specs.Calls.{Devices}
 use Rattle.st_wants.specs.Lock.{start}

@@ -1,5 +1,5 @@
 -- a call that ran on the part that its ticket holds
-use Rattle.std.specs.Prelude.{ℕ, ◌≡◌, true, false, List, map, Option, option_map, IfSome, Some}
+use Rattle.std.specs.Prelude.{ℕ, ◌≡◌, false, List, Option, option_map, IfSome, Some}
 use Rattle.std.specs.List.{AllByRecursion}
 use Rattle.st_model.specs.declared.call.Call.{Call}
 use Rattle.st_model.specs.declared.entry.Entry.{Entry}

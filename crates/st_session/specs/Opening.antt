@@ -1,5 +1,5 @@
 -- the state in which a run begins
-use Rattle.std.specs.Prelude.{ℕ, ◌≡◌, ◌^◌, ◌≤◌, List, [], ◌∷◌, length, map, Some, unwrap_or}
+use Rattle.std.specs.Prelude.{ℕ, ◌≡◌, ◌^◌, ◌≤◌, List, [], length, map, Some, unwrap_or}
 use Rattle.st_units.specs.declared.rows.DevRow.{DevRow}
 use Rattle.st_units.specs.declared.rows.Tier.TheVariants.{DataTier}
 use Rattle.st_rack.specs.Calls.{Devices, sectors_of}

@@ -1,5 +1,5 @@
 -- what is written for the lines and the log
-use Rattle.std.specs.Prelude.{ℕ, ◌+◌, ◌-◌, ◌==◌, List, [], ◌∷◌, ◌++◌, length, Bool, true, false, Option, Some, None, Result, Ok, Err, if◌then◌else◌}
+use Rattle.std.specs.Prelude.{ℕ, ◌+◌, ◌-◌, ◌==◌, List, [], ◌∷◌, ◌++◌, length, Bool, false, Option, Some, None, Result, Ok, Err, if◌then◌else◌}
 use Rattle.st_units.specs.declared.cause.Cause.TheVariants as causes
 use Rattle.st_model.specs.declared.call.Call.{Call}
 use Rattle.st_model.specs.declared.entry.Entry.{Entry}

@@ -1,5 +1,5 @@
 -- how far the output has come
-use Rattle.std.specs.Prelude.{ℕ, ◌≡◌, ◌+◌, ◌==◌, List, [], ◌∷◌, ◌++◌, Bool, false, length, Option, Some, None, IsSomeAnd, if◌then◌else◌}
+use Rattle.std.specs.Prelude.{ℕ, ◌≡◌, ◌+◌, List, [], ◌∷◌, ◌++◌, Bool, false, length, Option, Some, None, IsSomeAnd, if◌then◌else◌}
 use Rattle.std.specs.Io.KnownBytes.{Appends}
 use Rattle.st_units.specs.declared.cause.Cause.TheVariants as causes
 use Rattle.st_model.specs.declared.entry.Entry.{Entry}

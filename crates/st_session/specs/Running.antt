@@ -1,13 +1,11 @@
 -- what a run of lines has made of its state, its log and its answers
-use Rattle.std.specs.Prelude.{ℕ, ◌≡◌, ◌+◌, ◌<◌, ◌≤◌, List, [], ◌∷◌, ◌++◌, length, Option, Some, None, Ok, Err, slice_get}
+use Rattle.std.specs.Prelude.{ℕ, ◌≡◌, ◌+◌, List, [], ◌∷◌, ◌++◌, length, Some, None, Ok, Err, slice_get}
 use Rattle.st_units.specs.Roomy.{Roomy}
 use Rattle.st_model.specs.declared.call.Call.{Call}
 use Rattle.st_model.specs.declared.entry.Entry.{Entry}
 use Rattle.st_history.specs.declared.log.Event.{Event}
 use Rattle.st_history.specs.declared.log.Event.TheVariants.{Arrive, Grant, Release}
-use Rattle.st_model.specs.declared.entry.Origin.TheVariants.{Line}
-use Rattle.st_model.specs.declared.state.EngineState.{EngineState}
-use Rattle.st_model.specs.Step.{IsLicensed, step}
+use Rattle.st_model.specs.Step.{step}
 use Rattle.st_model.specs.Wanted.{want_of}
 use Rattle.st_calls.specs.Form.{form}
 use Rattle.st_session.specs.Entries.{entries_of, entry_of}

@@ -1,4 +1,4 @@
-use Rattle.std.proofs.Common.{◌≡◌, ℕ, ◌+◌, List, ◌∷◌, ◌++◌, ◌∙◌, drop, get_or, sym, ap, append_assoc}
+use Rattle.std.proofs.Common.{◌≡◌, ℕ, ◌+◌, List, ◌++◌, ◌∙◌, drop, get_or, sym, ap, append_assoc}
 use Rattle.std.proofs.lemmas.List.{at_drop_more}
 use Rattle.st_session.specs.declared.session.Answer.{Answer}
 use Rattle.st_session.specs.declared.session.Answer.TheVariants.{Ran}

@@ -1,4 +1,4 @@
-use Rattle.std.proofs.Common.{◌≡◌, ℕ, ◌+◌, List, ◌∷◌, ◌++◌, ◌∙◌, Option, drop, sym, ap, subst, append_assoc}
+use Rattle.std.proofs.Common.{◌≡◌, ℕ, ◌+◌, List, ◌++◌, ◌∙◌, drop, sym, ap, subst, append_assoc}
 use Rattle.std.proofs.lemmas.List.{at_drop_more}
 use Rattle.st_history.specs.declared.log.Event.{Event}
 use Rattle.st_trace.specs.Traced.{trace_line}

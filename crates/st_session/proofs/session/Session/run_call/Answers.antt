@@ -1,4 +1,4 @@
-use Rattle.std.proofs.Common.{ℕ, ◌≡◌, ◌++◌, [], ◌∷◌, ◌∙◌, ap, length, subst}
+use Rattle.std.proofs.Common.{◌∙◌, ap, length, subst}
 use Rattle.st_history.specs.History.{replay}
 use Rattle.st_session.specs.Running.{RanCall}
 use Rattle.st_session.specs.View.{SessionView}
