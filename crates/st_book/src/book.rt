@@ -17,8 +17,9 @@ ghost use Rattle.st_wants.specs.declared.want.Mode.TheVariants as modes;
 use crate::back::{bring_all, bring_one, renew_table};
 use crate::home::{take_cells, take_table};
 use crate::lent::{Lent, faults_of, forget};
-use crate::lists::{Lists, MOST_POOLS};
+use crate::lists::Lists;
 use crate::part::{Cells, InfoList, Part, Peek};
+use crate::ready::{Rooms, let_go, make_room, make_rooms};
 use crate::showing::{Showing, copy_all, show_part};
 use st_grants::Grants;
 use st_history::{Event, Log};
@@ -68,80 +69,6 @@ impl<C: Cell, T: Board> Model for Book<C, T> {
     ghost invariant = { λ b.
         HasRoom b.grants b.log.room (length b.spares.items) (vec_capacity b.lent - vec_len b.lent) (length b.cells.items + b.cells.room) (length b.infos.items + b.infos.room) (length b.infos.items) b.fresh.room (is_some b.table)
         × (length b.fresh.items ≡ 0) × AllByRecursion C.is_kept b.cells.items × IfSome b.table T.is_kept };
-}
-
-/// The lists that a book begins with.
-struct Rooms<C: Cell> {
-    cells: Cells<C>,
-    infos: InfoList<C::Info>,
-    fresh: InfoList<C::Info>,
-    grants: Grants,
-}
-
-fn make_rooms<C: Cell>(alloc: Global) -> Result<Rooms<C>, NoMemory>
-    ensures cells { IfOk result (λ r. (length r.cells.items ≡ 0) × (16 ≤ r.cells.room)) }
-    ensures infos { IfOk result (λ r. (length r.infos.items ≡ 0) × (16 ≤ r.infos.room)) }
-    ensures fresh { IfOk result (λ r. (length r.fresh.items ≡ 0) × (16 ≤ r.fresh.room)) }
-    ensures grants { IfOk result (λ r. r.grants ≡ start) }
-{
-    let infos = InfoList::with_room(alloc, MOST_POOLS)?;
-    let fresh = InfoList::with_room(alloc, MOST_POOLS)?;
-    let grants = Grants::make(alloc)?;
-    let cells = Cells::with_room(alloc, MOST_POOLS)?;
-    Ok(Rooms {
-        cells,
-        infos,
-        fresh,
-        grants,
-    })
-}
-
-/// How many events are to come of so many tickets and of one that arrives.
-fn events_for(tickets: usize) -> Result<usize, NoMemory>
-    ensures { IfOk result (λ n. n ≡ 2 * tickets + 3) }
-{
-    match tickets.checked_mul(2) {
-        Some(twice) => twice.checked_add(3).ok_or(NoMemory),
-        None => Err(NoMemory),
-    }
-}
-
-/// Takes the memory that one more ticket needs until its release.
-fn make_room<C: Cell>(
-    alloc: Global,
-    log: &mut Log,
-    spares: &mut RoomyList<Lists<C>>,
-    lent: &mut Vec<Lent>,
-    tickets: usize,
-) -> Result<(), NoMemory>
-    ensures log { log.new.items ≡ log.old.items }
-    ensures log_kept { OnErr result (log.old.room ≤ log.new.room) }
-    ensures log_room { OnOk result (2 * tickets + 3 ≤ log.new.room) }
-    ensures spares { OnOk result (length spares.new.items ≡ length spares.old.items + 1) }
-    ensures spares_kept { length spares.old.items ≤ length spares.new.items }
-    ensures lent { lent.new.items ≡ lent.old.items }
-    ensures lent_kept { vec_capacity lent.old ≤ vec_capacity lent.new }
-    ensures lent_room { OnOk result (length spares.new.items + vec_len lent.new ≤ vec_capacity lent.new) }
-{
-    log.reserve(events_for(tickets)?)?;
-    lent.reserve(spares.len().saturating_add(1))?;
-    let lists = Lists::make(alloc)?;
-    match spares.push(lists) {
-        Ok(()) => Ok(()),
-        Err((lists, refused)) => {
-            lists.finish();
-            Err(refused)
-        }
-    }
-}
-
-/// Lets the lists go that no ticket will use.
-fn let_go<C: Cell>(spares: RoomyList<Lists<C>>) {
-    let mut spares = spares;
-    for _ in 0..spares.len() {
-        spares.take_at(0).finish();
-    }
-    spares.finish();
 }
 
 impl<C: Cell, T: Board> Book<C, T> {

@@ -9,6 +9,7 @@ mod laws;
 mod lent;
 mod lists;
 mod part;
+mod ready;
 mod showing;
 
 pub use book::Book;
