@@ -1,3 +1,4 @@
 pub mod InOrder
 pub mod Made
+pub mod Released
 pub mod Reported
