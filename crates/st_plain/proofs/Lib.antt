@@ -1,4 +1,3 @@
 pub mod InOrder
 pub mod Made
-pub mod Released
 pub mod Reported
