@@ -64,8 +64,16 @@ create : (s : EngineState) (name : Text) (paths : List Text) → IsNoFailure (cr
 unfolding create_plain create_answer
 create s name paths =
     unless (create_answer s name paths) s _
-    (first (create_answers s name paths) (by_where _ EmptyDevices refl, (absent (first_absent paths s.devices), (held name paths (holder name s.pools),
-    (used s.pools (first_used paths s.pools), (small (first_small paths s.devices), (by_where _ TooManyDevices refl, (by_where _ TooManyPools refl, tt))))))))
+    (first (create_answers s name paths) (
+      by_where _ EmptyDevices refl,
+      (
+        absent (first_absent paths s.devices),
+        (
+          held name paths (holder name s.pools),
+          (used s.pools (first_used paths s.pools), (small (first_small paths s.devices), (by_where _ TooManyDevices refl, (by_where _ TooManyPools refl, tt)))),
+        ),
+      ),
+    ))
     refl
 
 report : (s : EngineState) → IsNoFailure (report_plain s).0
