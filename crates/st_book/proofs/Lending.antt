@@ -1,5 +1,5 @@
 -- The numbers with which parts went out.
-use Rattle.std.proofs.Common.{ℕ, ◌≡◌, ◌+◌, ◌≤◌, Bool, true, false, not, cond, List, [], ◌∷◌, ◌++◌, filter, refl, ap, arith}
+use Rattle.std.proofs.Common.{ℕ, ◌≡◌, ◌+◌, ◌≤◌, ◌==◌, Bool, true, false, not, cond, List, [], ◌∷◌, ◌++◌, filter, refl, ap, sym, ◌∙◌, arith}
 use Rattle.std.specs.List.{sum_by}
 use Rattle.std.proofs.lemmas.Bool.Decides.{nat_tests}
 use Rattle.std.proofs.lemmas.List.Filters.{sum_by-filter_both}
@@ -85,3 +85,24 @@ none_lent (x ∷ xs) h =
     let rest : lent_sum xs ≡ 0 = none_lent xs (λ t. let a = lent_more t x xs in let b = h t in omega arith) in
     let all = sum_by-cons (λ (y : Lent). y.faults) x xs in
     omega arith
+
+-- the others keep their numbers
+pub lent_kept : (t u : ℕ) (xs : List Lent) → (t ≡ u → ⊥) → lent_at u (left_of t xs) ≡ lent_at u xs
+lent_kept t u [] ne = refl
+lent_kept t u (x ∷ xs) ne =
+    let rest = lent_kept t u xs ne in
+    let whole = lent_more u x xs in
+    let cases : (b : Bool) → is_lent_to t x ≡ b → lent_at u (cond (not b) (x ∷ left_of t xs) (left_of t xs)) ≡ lent_at u (x ∷ xs) = elim [
+      | true ↦ (λ e.
+          let is : x.ticket ≡ t = grind (arith, nat_tests) in
+          let other : is_lent_to u x ≡ false = not_same x.ticket u (λ k. ne (sym is ∙ k)) in
+          let zero_by : lent_by u x ≡ 0 = ap (λ z. cond z x.faults 0) other in
+          omega arith)
+      | false ↦ (λ e. let a = lent_more u x (left_of t xs) in omega arith)
+    ] in
+    cases (is_lent_to t x) refl
+  where
+    not_same : (a b : ℕ) → (a ≡ b → ⊥) → (a == b) ≡ false
+    not_same a b ne' =
+        let cases : (c : Bool) → (a == b) ≡ c → c ≡ false = elim [ true ↦ (λ e. absurd (let same : a ≡ b = grind (arith, nat_tests) in ne' same)) | false ↦ (λ e. refl) ] in
+        cases (a == b) refl

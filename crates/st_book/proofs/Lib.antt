@@ -5,6 +5,7 @@ pub mod Named
 pub mod Pools
 pub mod AtHome
 pub mod Lending
+pub mod Numbers
 pub mod Standing
 pub mod Returned
 pub mod Renewing

@@ -15,7 +15,7 @@ use Rattle.st_model.specs.declared.state.EngineState.{EngineState}
 use Rattle.st_model.specs.declared.state.PoolState.{PoolState}
 use Rattle.st_model.specs.Parts.{started, table_of, shown_table}
 use Rattle.st_model.specs.steps.EngineStateReport.{pool_info}
-use Rattle.st_history.specs.declared.log.Event.TheVariants.{Release}
+use Rattle.st_history.specs.declared.log.Event.TheVariants.{Grant, Release}
 use Rattle.st_history.specs.Failures.{failures, failures_of}
 use Rattle.st_history.specs.History.{moves_of, replay, state_after, IsOf}
 use Rattle.st_history.proofs.Snoc.{history-sound}
@@ -25,6 +25,9 @@ use Rattle.st_book.specs.Effects.{takes_table}
 use Rattle.st_book.specs.Stands.{Stands, AreAtHome, ComesBack, InfosShow, PartStands}
 use Rattle.st_book.specs.View.{BookView, TableView, lent_at, lent_sum}
 use Rattle.st_book.proofs.Lending.{left_of, lent_left, lent_gone, lent_fewer}
+use Rattle.st_book.specs.declared.noted.Noted.{Noted}
+use Rattle.st_book.specs.Noted.{noted_log}
+use Rattle.st_book.proofs.Numbers.{noted-snoc, lent-released}
 use Rattle.st_book.proofs.Named.{no_longer}
 use Rattle.st_book.proofs.Pools.{name_of}
 use Rattle.st_book.proofs.Renewing.{infos_all, infos_back, table_kept}
@@ -54,10 +57,10 @@ part_fits s base b t r entries cells table h at live back =
 
 -- a book that got a part back, and shows what is after it
 stands_released : (s : EngineState) (base : ℕ) (b n : BookView) (t : ℕ) (r : LockRow) (entries : Roomy Entry) (cells : List PoolState) (held : Option TableView) (number : ℕ) → Stands s base b → row_at t b.lock.rows ≡ Just r → r.live ≡ true
-    → n.lock ≡ released t b.lock → n.log ≡ b.log ++ Release r.seat t entries ∷ [] → n.lent ≡ left_of t b.lent → ComesBack r.want (replay s b.log) base entries.items cells held
+    → n.lock ≡ released t b.lock → n.log ≡ b.log ++ Release r.seat t entries ∷ [] → n.lent ≡ left_of t b.lent → n.notes ≡ b.notes → ComesBack r.want (replay s b.log) base entries.items cells held
     → (length b.log < 2 ^ 62 → number ≡ lent_at t b.lent + failures_of entries.items) → n.cells ≡ b.cells ++ cells → n.table ≡ table_back r.want held b.table → n.faults ≡ b.faults + number
     → InfosShow (state_after (replay s b.log) entries.items) n.infos → n.table_info ≡ shown_table (table_of (state_after (replay s b.log) entries.items)) → IfSome n.table (λ (v : TableView). base ≤ v.slack) → Stands s base n
-stands_released s base b n t r entries cells held number h at live lock log lent back number_is cells_are table faults infos table_info slack =
+stands_released s base b n t r entries cells held number h at live lock log lent notes back number_is cells_are table faults infos table_info slack =
     let rows : n.lock.rows ≡ rows_without t b.lock.rows = ap (λ (l : Lock). l.rows) lock in
     let alive : IsSomeAnd (row_at t b.lock.rows) (λ (q : LockRow). (q.live ≡ true) × (q.seat ≡ r.seat)) = rw at (live, refl) in
     let asked : IsSomeAnd (row_at t b.lock.rows) (λ (q : LockRow). IsOf q.want entries.items) = rw at back.of in
@@ -88,19 +91,21 @@ stands_released s base b n t r entries cells held number h at live lock log lent
       slack = slack;
       faults = λ k. rw lent (counted k);
       idle = rw (rows, lent) idle;
+      grants = let g = h.grants in rw notes (omega arith);
+      noted = rw (lock, log, notes, lent, noted-snoc b.log b.notes (Release r.seat t entries)) (lent-released b.lock t (noted_log b.log b.notes) _ b.lent (λ q u k e. let no : Release r.seat t entries ≡ Grant q u = ap (λ (z : Noted). z.event) e in cc) h.noted);
     })
 
 -- a release that brings no table back
 pub stands_back : (s : EngineState) (base : ℕ) (b n : BookView) (t : ℕ) (r : LockRow) (entries : Roomy Entry) (cells : List PoolState) (held : Option TableView) (number : ℕ) → Stands s base b → row_at t b.lock.rows ≡ Just r → r.live ≡ true
-    → n.lock ≡ released t b.lock → n.log ≡ b.log ++ Release r.seat t entries ∷ [] → n.lent ≡ left_of t b.lent → ComesBack r.want (replay s b.log) base entries.items cells held
+    → n.lock ≡ released t b.lock → n.log ≡ b.log ++ Release r.seat t entries ∷ [] → n.lent ≡ left_of t b.lent → n.notes ≡ b.notes → ComesBack r.want (replay s b.log) base entries.items cells held
     → (length b.log < 2 ^ 62 → number ≡ lent_at t b.lent + failures_of entries.items) → n.cells ≡ b.cells ++ cells
     → takes_table r.want ≡ false → n.table ≡ b.table → n.table_info ≡ b.table_info → n.infos ≡ all_renewed cells b.infos → n.faults ≡ b.faults + number → Stands s base n
-stands_back s base b n t r entries cells held number h at live lock log lent back number_is cells_are no_table table table_info infos faults =
+stands_back s base b n t r entries cells held number h at live lock log lent notes back number_is cells_are no_table table table_info infos faults =
     let now : EngineState = replay s b.log in
     let home : table_back r.want held b.table ≡ b.table = ap (λ z. cond z held b.table) no_table in
     let shown : InfosShow (state_after now entries.items) (all_renewed cells b.infos) = infos_back r.want now entries.items cells held b.infos no_table back.one back.of back.part h.infos in
     let same : table_of now ≡ table_of (state_after now entries.items) = sym (table_kept r.want now entries.items no_table back.one back.of) in
-    stands_released s base b n t r entries cells held number h at live lock log lent back number_is cells_are (table ∙ sym home) faults
+    stands_released s base b n t r entries cells held number h at live lock log lent notes back number_is cells_are (table ∙ sym home) faults
     (subst (λ z. InfosShow (state_after now entries.items) z) (sym infos) shown)
     (table_info ∙ (h.table_info ∙ ap shown_table same))
     (subst (λ z. IfSome z (λ (v : TableView). base ≤ v.slack)) (sym table) h.slack)
@@ -113,14 +118,14 @@ is_all (All Write) h = refl
 
 -- a release that brings the table back
 pub stands_back_all : (s : EngineState) (base : ℕ) (b n : BookView) (t : ℕ) (r : LockRow) (entries : Roomy Entry) (cells : List PoolState) (v : TableView) (number : ℕ) → Stands s base b → row_at t b.lock.rows ≡ Just r → r.live ≡ true
-    → n.lock ≡ released t b.lock → n.log ≡ b.log ++ Release r.seat t entries ∷ [] → n.lent ≡ left_of t b.lent → ComesBack r.want (replay s b.log) base entries.items cells (Just v)
+    → n.lock ≡ released t b.lock → n.log ≡ b.log ++ Release r.seat t entries ∷ [] → n.lent ≡ left_of t b.lent → n.notes ≡ b.notes → ComesBack r.want (replay s b.log) base entries.items cells (Just v)
     → (length b.log < 2 ^ 62 → number ≡ lent_at t b.lent + failures_of entries.items) → n.cells ≡ b.cells ++ cells
     → takes_table r.want ≡ true → n.table ≡ Just v → n.table_info ≡ shown_table v.state → n.infos ≡ map pool_info cells → n.faults ≡ b.faults + number → Stands s base n
-stands_back_all s base b n t r entries cells v number h at live lock log lent back number_is cells_are takes table table_info infos faults =
+stands_back_all s base b n t r entries cells v number h at live lock log lent notes back number_is cells_are takes table table_info infos faults =
     let now : EngineState = state_after (replay s b.log) entries.items in
     let home : table_back r.want (Just v) b.table ≡ Just v = ap (λ z. cond z (Just v) b.table) takes in
     let stands : PartStands (All Write) now cells (Just v) = subst (λ w. PartStands w now cells (Just v)) (is_all r.want takes) back.part in
-    stands_released s base b n t r entries cells (Just v) number h at live lock log lent back number_is cells_are (table ∙ sym home) faults
+    stands_released s base b n t r entries cells (Just v) number h at live lock log lent notes back number_is cells_are (table ∙ sym home) faults
     (subst (λ z. InfosShow now z) (sym infos) (infos_all now cells stands.0 stands.1))
     (table_info ∙ ap shown_table stands.2)
     (subst (λ z. IfSome z (λ (w : TableView). base ≤ w.slack)) (sym table) back.slack)

@@ -29,6 +29,10 @@ use Rattle.st_book.specs.Stands.{Stands, AreAtHome, InfosShow, PartStands, PartS
 use Rattle.st_book.specs.View.{BookView, TableView, is_lent_to, lent_at, lent_sum}
 use Rattle.st_book.proofs.Named.{none_and_some, not_found}
 use Rattle.st_book.proofs.AtHome.{home_arrived, home_granted, part_home, lives}
+use Rattle.st_history.proofs.Told.{waits-not_granted}
+use Rattle.st_book.specs.declared.noted.Noted.{Noted}
+use Rattle.st_book.specs.Noted.{noted_log, grants_in, grant_count, LentAsNoted}
+use Rattle.st_book.proofs.Numbers.{noted-snoc, count-snoc, noted-granted, noted-in_log, lent-arrived, lent-granted}
 use Rattle.st_book.proofs.Lending.{lent_push_other, lent_push_own, lent_sum_push, none_lent}
 
 -- a ticket that isn't live has no number
@@ -47,6 +51,8 @@ pub record Follows (s : EngineState) (base : ℕ) (b n : BookView) (e : Event) :
   pub slack : IfSome n.table (λ (v : TableView). base ≤ v.slack)
   pub faults : length b.log < 2 ^ 62 → failures b.log + failures_in e ≡ n.faults + lent_sum n.lent
   pub idle : IsIdle n.lock.rows n.lent
+  pub grants : length n.notes ≡ grant_count b.log + grants_in e
+  pub noted : LentAsNoted n.lock (noted_log n.log n.notes) n.lent
 
 pub stands_after : (s : EngineState) (base : ℕ) (b n : BookView) (e : Event) → Stands s base b → Follows s base b n e → Stands s base n
 stands_after s base b n e h f =
@@ -62,12 +68,14 @@ stands_after s base b n e h f =
       slack = f.slack;
       faults = λ k. counted ∙ f.faults (omega arith);
       idle = f.idle;
+      grants = let c : grant_count n.log ≡ grant_count b.log + grants_in e = ap grant_count f.log ∙ count-snoc b.log e in f.grants ∙ sym c;
+      noted = f.noted;
     }
 
 -- a book that is made, of a state with no started pool
-pub stands_made : (s : EngineState) (b : BookView) (st : TableState) (slack : ℕ) → table_of s ≡ st → started s ≡ [] → b.lock ≡ start → b.log ≡ [] → b.cells ≡ [] → b.infos ≡ [] → b.table ≡ Just (record { state = st; slack = slack }) → b.table_info ≡ shown_table st → b.faults ≡ 0 → b.lent ≡ [] → Stands s slack b
+pub stands_made : (s : EngineState) (b : BookView) (st : TableState) (slack : ℕ) → table_of s ≡ st → started s ≡ [] → b.lock ≡ start → b.log ≡ [] → b.cells ≡ [] → b.infos ≡ [] → b.table ≡ Just (record { state = st; slack = slack }) → b.table_info ≡ shown_table st → b.faults ≡ 0 → b.lent ≡ [] → b.notes ≡ [] → Stands s slack b
 unfolding IsDistinct
-stands_made s b st slack is none lock log cells infos table table_info faults lent =
+stands_made s b st slack is none lock log cells infos table table_info faults lent notes =
     let rows : b.lock.rows ≡ [] = ap (λ (l : Lock). l.rows) lock in
     let home : AreAtHome [] s [] (Just (record { state = st; slack = slack })) = record {
       apart = tt;
@@ -86,12 +94,14 @@ stands_made s b st slack is none lock log cells infos table table_info faults le
       slack = subst (λ z. IfSome z (λ (v : TableView). slack ≤ v.slack)) (sym table) (omega arith);
       faults = λ k. rw (log, faults, lent) refl;
       idle = λ t k. ap (lent_at t) lent;
+      grants = rw (log, notes) refl;
+      noted = λ seat t n is live. absurd (rw log at is);
     }
 
 -- a book in which a ticket arrived
 pub stands_arrived : (s : EngineState) (base : ℕ) (b n : BookView) (seat : ℕ) (want : Want) → Stands s base b
-    → n.lock ≡ arrived seat want b.lock → n.log ≡ b.log ++ Arrive seat b.lock.next want ∷ [] → n.cells ≡ b.cells → n.infos ≡ b.infos → n.table ≡ b.table → n.table_info ≡ b.table_info → n.faults ≡ b.faults → n.lent ≡ b.lent → Stands s base n
-stands_arrived s base b n seat want h lock log cells infos table table_info faults lent =
+    → n.lock ≡ arrived seat want b.lock → n.log ≡ b.log ++ Arrive seat b.lock.next want ∷ [] → n.cells ≡ b.cells → n.infos ≡ b.infos → n.table ≡ b.table → n.table_info ≡ b.table_info → n.faults ≡ b.faults → n.lent ≡ b.lent → n.notes ≡ b.notes → Stands s base n
+stands_arrived s base b n seat want h lock log cells infos table table_info faults lent notes =
     let x : LockRow = new_row b.lock.next seat want in
     let rows : n.lock.rows ≡ b.lock.rows ++ x ∷ [] = ap (λ (l : Lock). l.rows) lock in
     let idle : IsIdle (b.lock.rows ++ x ∷ []) b.lent = λ t k. h.idle t (λ r at. k r (row_keep t b.lock.rows x r at)) in
@@ -107,6 +117,8 @@ stands_arrived s base b n seat want h lock log cells infos table table_info faul
       slack = subst (λ z. IfSome z (λ (v : TableView). base ≤ v.slack)) (sym table) h.slack;
       faults = λ k. rw (faults, lent) (counted k);
       idle = rw (rows, lent) idle;
+      grants = let g = h.grants in rw notes (omega arith);
+      noted = rw (lock, log, notes, lent, noted-snoc b.log b.notes (Arrive seat b.lock.next want)) (lent-arrived b.lock seat want (noted_log b.log b.notes) _ b.lent (λ q t k e. let no : Arrive seat b.lock.next want ≡ Grant q t = ap (λ (z : Noted). z.event) e in cc) h.noted);
     })
 
 -- the part that a grant gives stands for the state
@@ -141,8 +153,8 @@ out_small s base b rest out h is k =
 -- a book in which a ticket was granted
 pub stands_granted : (s : EngineState) (base : ℕ) (b n : BookView) (t : ℕ) (r : LockRow) (x : Lent) (out : ℕ) → Stands s base b → row_at t b.lock.rows ≡ Just r → r.live ≡ false → IsFree b.lock t
     → n.lock ≡ granted t b.lock → n.log ≡ b.log ++ Grant r.seat t ∷ [] → n.cells ≡ cells_left r.want b.cells → n.infos ≡ b.infos → n.table ≡ table_left r.want b.table → n.table_info ≡ b.table_info
-    → n.lent ≡ b.lent ++ x ∷ [] → x.ticket ≡ t → x.faults ≡ min out (2 ^ 64 - 1) → n.faults + out ≡ b.faults → Stands s base n
-stands_granted s base b n t r x out h at waits free lock log cells infos table table_info lent ticket number faults =
+    → n.lent ≡ b.lent ++ x ∷ [] → x.ticket ≡ t → x.faults ≡ min out (2 ^ 64 - 1) → n.faults + out ≡ b.faults → n.notes ≡ b.notes ++ x.faults ∷ [] → Stands s base n
+stands_granted s base b n t r x out h at waits free lock log cells infos table table_info lent ticket number faults notes =
     let rows : n.lock.rows ≡ map (marked t) b.lock.rows = ap (λ (l : Lock). l.rows) lock in
     let waiting : IsSomeAnd (row_at t b.lock.rows) (λ (q : LockRow). (q.live ≡ false) × (q.seat ≡ r.seat)) = rw at (waits, refl) in
     let mine : row_at t (map (marked t) b.lock.rows) ≡ Just (marked t r) = row_marks t t b.lock.rows r at in
@@ -173,6 +185,10 @@ stands_granted s base b n t r x out h at waits free lock log cells infos table t
       slack = subst (λ z. IfSome z (λ (v : TableView). base ≤ v.slack)) (sym table) (slack_left r.want base b.table h.slack);
       faults = λ k. rw lent (counted k);
       idle = rw (rows, lent) idle;
+      grants = let g = h.grants in let more = length-append b.notes (x.faults ∷ []) in rw notes (omega arith);
+      noted = rw (lock, log, notes, lent, noted-granted b.log b.notes r.seat t x.faults h.grants) (lent-granted b.lock t r.seat (noted_log b.log b.notes) x b.lent
+      (λ q k is. waits-not_granted s b.log t q r h.history (subst (λ (l : Lock). row_at t l.rows ≡ Just r) h.lock at) waits (noted-in_log b.log b.notes q t k is))
+      (h.idle t (λ q qat. let same : q ≡ r = cc in ap (λ (z : LockRow). z.live) same ∙ waits)) ticket h.noted);
     })
   where
     or_none : (a c : Bool) → (a || c) ≡ false → a ≡ false

@@ -1,4 +1,5 @@
 pub mod View
+pub mod Noted
 pub mod Effects
 pub mod Back
 pub mod Callers

@@ -20,6 +20,7 @@ use Rattle.st_model.specs.steps.EngineStateReport.{pool_info}
 use Rattle.st_history.specs.Failures.{failures}
 use Rattle.st_history.specs.History.{History, moves_of, replay, state_after, AreSteps, AreOneCall, IsOf}
 use Rattle.st_book.specs.Effects.{takes_table, info_at}
+use Rattle.st_book.specs.Noted.{noted_log, grant_count, LentAsNoted}
 use Rattle.st_book.specs.View.{BookView, TableView, lent_at, lent_sum}
 
 -- no two pools of one name
@@ -82,6 +83,9 @@ pub record Stands (s0 : EngineState) (base : ℕ) (b : BookView) : Type 0 where
   -- what is out counts with its number at the grant
   pub faults : length b.log < 2 ^ 62 → failures b.log ≡ b.faults + lent_sum b.lent
   pub idle : (t : ℕ) → ((r : LockRow) → row_at t b.lock.rows ≡ Just r → r.live ≡ false) → lent_at t b.lent ≡ 0
+  -- each grant is noted, and a live ticket's number is the one noted
+  pub grants : length b.notes ≡ grant_count b.log
+  pub noted : LentAsNoted b.lock (noted_log b.log b.notes) b.lent
 
 -- the cells and the table are those that the want lets its holder change, as they are in the state
 abbrev pub PartStands : Want → EngineState → List PoolState → Option TableView → Type 0

@@ -27,6 +27,8 @@ pub record BookView : Type 0 where
   pub faults : ℕ
   -- for each live ticket the number of faults of its part, as it was at the grant
   pub lent : List Lent
+  -- the number of each grant in the log, in their order, none ever forgotten
+  pub notes : List ℕ
 
 abbrev pub is_lent_to : ℕ → Lent → Bool
 is_lent_to t x = x.ticket == t

@@ -1,4 +1,4 @@
-ghost use Rattle.std.specs.Prelude.{ℕ, ◌≡◌, ◌+◌, ◌*◌, ◌≤◌, ◌<◌, ◌^◌, ◌∷◌, ◌++◌, [], filter, map, not, length, vec_len, vec_capacity, option_map, is_some, Some, None, true, false, IfOk, IfErr, IfSome, IfNone, OnOk, OnErr, IsSome};
+ghost use Rattle.std.specs.Prelude.{ℕ, ◌≡◌, ◌+◌, ◌-◌, ◌*◌, ◌≤◌, ◌<◌, ◌^◌, ◌∷◌, ◌++◌, [], min, filter, map, not, length, vec_len, vec_capacity, option_map, is_some, Some, None, true, false, IfOk, IfErr, IfSome, IfNone, OnOk, OnErr, IsSome};
 ghost use Rattle.std.specs.List.{AllByRecursion, sum_by};
 ghost use Rattle.st_wants.specs.Lock.{start, arrived, granted, released, row_at, IsWaiting, IsLive, IsLeastBlocker};
 ghost use Rattle.st_grants.specs.Order.{IsLeastTicket};
@@ -18,6 +18,7 @@ use crate::back::{bring_all, bring_one, renew_table};
 use crate::home::{take_cells, take_table};
 use crate::lent::{Lent, faults_of, forget};
 use crate::lists::Lists;
+use crate::noted::{Notes, no_notes, note};
 use crate::part::{Cells, InfoList, Part, Peek};
 use crate::ready::{Rooms, let_go, make_room, make_rooms};
 use crate::showing::{Showing, copy_all, show_part};
@@ -29,6 +30,7 @@ use st_wants::{Mode, Want};
 use std::alloc::Global;
 use std::marker::Model;
 use std::mem;
+use std::snapshot::Snapshot;
 
 /// The tickets, their log, and what is at home. Cells and the table go out with a grant and come
 /// back with a release.
@@ -45,11 +47,14 @@ pub struct Book<C: Cell, T: Board> {
     /// For each ticket that waits, the lists of its part.
     spares: RoomyList<Lists<C>>,
     lent: Vec<Lent>,
+    /// The number of each grant. It takes no memory.
+    notes: Snapshot<Notes>,
 }
 
 impl<C: Cell, T: Board> Model for Book<C, T> {
     ghost use Rattle.std.specs.Prelude.{◌≡◌, ◌+◌, ◌-◌, map, length, option_map, is_some, IfSome, vec_len, vec_capacity};
     ghost use Rattle.std.specs.List.{AllByRecursion, sum_by};
+    ghost use Rattle.st_book.specs.Noted.{numbers};
     ghost use Rattle.st_book.specs.Rooms.{HasRoom};
     ghost use Rattle.st_book.specs.View.{BookView, or_zero};
 
@@ -64,6 +69,7 @@ impl<C: Cell, T: Board> Model for Book<C, T> {
       table_info = T.shows b.table_info;
       faults = or_zero (option_map T.fault_count b.table) + sum_by C.fault_count b.cells.items;
       lent = b.lent.items;
+      notes = numbers b.notes.value;
     } };
 
     ghost invariant = { λ b.
@@ -81,6 +87,8 @@ impl<C: Cell, T: Board> Book<C, T> {
         ensures back { IfErr result (λ e. e.0 ≡ table) }
         ensures lock { IfOk result (λ b. b.lock ≡ start) }
         ensures log { IfOk result (λ b. b.log ≡ []) }
+        ensures cells { IfOk result (λ b. b.cells ≡ []) }
+        ensures table { IfOk result (λ b. b.table ≡ Some (record { state = T.stands table; slack = T.slack table })) }
         ensures stands { IfOk result (λ b. (s : EngineState) → table_of s ≡ T.stands table → started s ≡ [] → Stands s (T.slack table) b) }
     {
         let Rooms {
@@ -106,6 +114,7 @@ impl<C: Cell, T: Board> Book<C, T> {
             table_info,
             spares: RoomyList::make(alloc),
             lent: Vec::new(alloc),
+            notes: no_notes(),
         })
     }
 
@@ -164,6 +173,7 @@ impl<C: Cell, T: Board> Book<C, T> {
         ensures slack { IfOk result (λ p. (s : EngineState) (base : ℕ) → Stands s base self.old → IfSome p.table (λ t. base ≤ T.slack t)) }
         ensures lent { IfOk result (λ p. (s : EngineState) (base : ℕ) → Stands s base self.old → length self.old.log < 2 ^ 62
             → lent_at ticket self.new.lent ≡ or_zero (option_map T.fault_count p.table) + sum_by C.fault_count p.cells.items) }
+        ensures notes { IfOk result (λ p. self.new.notes ≡ self.old.notes ++ min (or_zero (option_map T.fault_count p.table) + sum_by C.fault_count p.cells.items) (2 ^ 64 - 1) ∷ []) }
         ensures kept { IfOk result (λ p. AllByRecursion C.is_kept p.cells.items × IfSome p.table T.is_kept) }
         ensures places { IfOk result (λ p. 16 ≤ length p.cells.items + p.cells.room) }
     {
@@ -179,6 +189,7 @@ impl<C: Cell, T: Board> Book<C, T> {
             Ok(()) => {}
             Err(_) => unreachable!(),
         }
+        note(&mut self.notes, faults);
         self.grants.grant(ticket);
         self.log.put(Event::Grant(seat, ticket));
         let Showing {
@@ -204,6 +215,7 @@ impl<C: Cell, T: Board> Book<C, T> {
         requires kept { AllByRecursion C.is_kept part.cells.items × IfSome part.table T.is_kept }
         ensures lock { self.new.lock ≡ released ticket self.old.lock }
         ensures log { IfSome (row_at ticket self.old.lock.rows) (λ r. self.new.log ≡ self.old.log ++ Event.Release r.seat ticket entries ∷ []) }
+        ensures notes { self.new.notes ≡ self.old.notes }
         ensures stands { (s : EngineState) (base : ℕ) → Stands s base self.old
             → IfSome (row_at ticket self.old.lock.rows) (λ r. ComesBack r.want (replay s self.old.log) base entries.items (map C.state part.cells.items) (option_map (λ t. record { state = T.stands t; slack = T.slack t }) part.table))
             → AllByRecursion (λ c. C.has_spare c ≡ false → info_at (C.named c) self.old.infos ≡ Some (pool_info (C.state c))) part.cells.items
@@ -240,6 +252,7 @@ impl<C: Cell, T: Board> Book<C, T> {
         ensures table_info { self.new.table_info ≡ self.old.table_info }
         ensures faults { self.new.faults ≡ self.old.faults + sum_by C.fault_count part.items }
         ensures lent { self.new.lent ≡ filter (λ x. not (is_lent_to ticket x)) self.old.lent }
+        ensures notes { self.new.notes ≡ self.old.notes }
     {
         let seat = self.grants.seat(ticket);
         bring_one(&mut self.cells, &mut self.infos, part);
@@ -265,6 +278,7 @@ impl<C: Cell, T: Board> Book<C, T> {
         ensures table_info { (T.has_spare table ≡ false → self.old.table_info ≡ shown_table (T.stands table)) → self.new.table_info ≡ shown_table (T.stands table) }
         ensures faults { self.new.faults ≡ T.fault_count table + (self.old.faults + sum_by C.fault_count part.items) }
         ensures lent { self.new.lent ≡ filter (λ x. not (is_lent_to ticket x)) self.old.lent }
+        ensures notes { self.new.notes ≡ self.old.notes }
     {
         let mut table = table;
         renew_table(&mut self.table_info, &mut table);
@@ -335,6 +349,7 @@ impl<C: Cell, T: Board> Book<C, T> {
             table_info: _,
             spares,
             lent: _,
+            notes: _,
         } = self;
         let_go(spares);
         match table {

@@ -3,7 +3,7 @@ use Rattle.std.proofs.Common.{◌≡◌, ℕ, ◌+◌, ◌<◌, ◌≤◌, suc, 
 use Rattle.std.specs.Map.{keys_of, values_of}
 use Rattle.std.proofs.lemmas.Bool.{both_ways}
 use Rattle.std.proofs.lemmas.List.{length-set, get_or-set_same}
-use Rattle.st_rules.specs.Cache.{has, without, AreDistinct}
+use Rattle.st_limits.specs.Cache.{has, without, AreDistinct}
 use Rattle.st_links.specs.Arena.{Arena, unlinked, fronted, pushed_front, pushed_back, IsArena}
 use Rattle.st_cachemap.specs.Cached.{Cached, cells_of, places_of, place_in, without_cell, without_place, fronted_at, IsCached}
 use Rattle.st_cachemap.specs.Sound.{Sound, used, bucket_of, entries_at}

@@ -2,8 +2,8 @@
 use Rattle.std.proofs.Common.{◌≡◌, ℕ, ◌<◌, true, List, [], ◌∷◌, length, cond, eqb, Option, Some, None, inl, inr, refl, sym, ◌∙◌, ap, subst, arith}
 use Rattle.std.proofs.lemmas.Bool.{cases_eq, cases_Bool, eq-eqb, ne_eqb, cond-true, cond-false, false≢true, false_from_ne_true}
 use Rattle.std.specs.Option.{MatchOption}
-use Rattle.st_rules.specs.Cache.{has, AreDistinct}
-use Rattle.st_rules.proofs.Members.{has_head, has_tail, has_cases, differ_by_list}
+use Rattle.st_limits.specs.Cache.{has, AreDistinct}
+use Rattle.st_limits.proofs.Members.{has_head, has_tail, has_cases, differ_by_list}
 use Rattle.st_links.specs.Arena.{row, first_of, after, next_of, IsArena}
 use Rattle.st_links.proofs.Neighbours.{next_of_at}
 

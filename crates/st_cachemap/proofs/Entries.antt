@@ -3,8 +3,8 @@ use Rattle.std.proofs.Common.{◌≡◌, ℕ, ◌<◌, ◌≤◌, Bool, true, fa
 use Rattle.std.specs.Map.{keys_of, values_of}
 use Rattle.std.proofs.lemmas.Bool.{cases_eq, cases_Bool, or_left, eq-eqb, ne_eqb, eqb-true, eqb-false, cond-true, cond-false, false≢true, false_from_ne_true}
 use Rattle.std.proofs.lemmas.List.{get_or-set_other}
-use Rattle.st_rules.specs.Cache.{has, without, AreDistinct}
-use Rattle.st_rules.proofs.Members.{has_head, has_tail, has_cases, lacks_parts, lacks_from, differ_by_list, without_here, without_there}
+use Rattle.st_limits.specs.Cache.{has, without, AreDistinct}
+use Rattle.st_limits.proofs.Members.{has_head, has_tail, has_cases, lacks_parts, lacks_from, differ_by_list, without_here, without_there}
 use Rattle.st_cachemap.specs.Cached.{place_in, without_cell, without_place}
 use Rattle.st_cachemap.specs.Sound.{entries_at}
 

@@ -2,8 +2,8 @@
 use Rattle.std.proofs.Common.{◌≡◌, ℕ, zero, suc, ◌+◌, ◌<◌, ◌≤◌, true, false, List, [], ◌∷◌, ◌++◌, length, get_or, set, replicate, eqb, ◌⊎◌, inl, inr, refl, sym, ◌∙◌, ap, subst, arith}
 use Rattle.std.proofs.lemmas.Bool.{cases_eq, cases_Bool, both_ways, or_left, eq-eqb, false≢true, false_from_ne_true}
 use Rattle.std.proofs.lemmas.List.{get_or-set_other, get_or-set_same, length-set, length-map, length-replicate}
-use Rattle.st_rules.specs.Cache.{has, without, promoted, AreDistinct}
-use Rattle.st_rules.proofs.Members.{has_head, has_tail, has_cases, lacks_itself, has_of_without, has-without, without_here, without_there, without_absent}
+use Rattle.st_limits.specs.Cache.{has, without, promoted, AreDistinct}
+use Rattle.st_limits.proofs.Members.{has_head, has_tail, has_cases, lacks_itself, has_of_without, has-without, without_here, without_there, without_absent}
 use Rattle.st_links.specs.Arena.{Arena, row, is_linked, unlinked, fronted, pushed_front, pushed_back, IsArena}
 use Rattle.st_links.proofs.Moves.{linked_in, linked_from, row-unlinked, row-fronted}
 use Rattle.st_links.proofs.Rows.{length_of_distinct}

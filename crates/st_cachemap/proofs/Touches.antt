@@ -4,8 +4,8 @@ use Rattle.std.specs.List.{slice_get}
 use Rattle.std.specs.Map.{keys_of, values_of}
 use Rattle.std.proofs.lemmas.Bool.{cases_eq, both_ways, or_left, eq-eqb, ne_eqb, cond-true, cond-false, false≢true, false_from_ne_true}
 use Rattle.std.proofs.lemmas.Map.Steps.{le-length_from_below}
-use Rattle.st_rules.specs.Cache.{has, without, touched, hits_after, misses_after, counted, promoted, AreDistinct}
-use Rattle.st_rules.proofs.Members.{has_head, has_tail, has_cases, differ_by_list, lacks_parts, without_here, without_there}
+use Rattle.st_limits.specs.Cache.{has, without, touched, hits_after, misses_after, counted, promoted, AreDistinct}
+use Rattle.st_limits.proofs.Members.{has_head, has_tail, has_cases, differ_by_list, lacks_parts, without_here, without_there}
 use Rattle.st_links.specs.Arena.{Arena, row, first_of, last_of}
 use Rattle.st_links.proofs.Moves.{linked_in}
 use Rattle.st_cachemap.specs.declared.answer.Touch.{Touch}

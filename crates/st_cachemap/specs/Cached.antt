@@ -1,7 +1,7 @@
 -- the cache list as clauses see it: the cells with their places, the one used last first
 use Rattle.std.specs.Prelude.{◌≡◌, ℕ, ◌<◌, ◌≤◌, true, not, List, ◌∷◌, ◌++◌, length, take, filter, nat_eq, Option, Some, None}
 use Rattle.std.specs.Map.{lookup, keys_of, values_of}
-use Rattle.st_rules.specs.Cache.{has, fallen, counted, AreDistinct}
+use Rattle.st_limits.specs.Cache.{has, fallen, counted, AreDistinct}
 use Rattle.st_cachemap.specs.declared.answer.Touch.{Touch}
 use Rattle.st_cachemap.specs.declared.answer.Touch.TheVariants.{Hit, Miss}
 

@@ -1,6 +1,6 @@
 -- how the fields of `CacheMap` stand for a cache list
 use Rattle.std.specs.Prelude.{◌≡◌, ℕ, ◌*◌, ◌/◌, ◌%◌, ◌^◌, ◌<◌, ◌≤◌, true, false, List, [], length, map, slice_index}
-use Rattle.st_rules.specs.Cache.{has}
+use Rattle.st_limits.specs.Cache.{has}
 use Rattle.st_links.specs.Arena.{Arena, row, is_linked, IsArena}
 use Rattle.st_cachemap.specs.declared.slots.TheConstants.{USED, SPREAD}
 

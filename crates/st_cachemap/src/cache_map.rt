@@ -1,5 +1,5 @@
 ghost use Rattle.std.specs.Prelude.{◌≡◌, ◌+◌, ◌<◌, ◌≤◌, ◌↔◌, true, false, IsTrue, IfOk, OnOk, OnErr, IsSome, MatchOption, Some, None, [], ◌∷◌, ◌++◌, ◌-◌, length, take, slice_get};
-ghost use Rattle.st_rules.specs.Cache.{has, touched, promoted, dropped, hits_after, misses_after, counted};
+ghost use Rattle.st_limits.specs.Cache.{has, touched, promoted, dropped, hits_after, misses_after, counted};
 ghost use Rattle.st_cachemap.specs.Cached.{Cached, cells_of, places_of, place_in, without_cell, without_place, fronted_at, touch_place, IsTouch, IsCached, MissedAt};
 
 use crate::answer::Touch;

@@ -2,8 +2,8 @@
 use Rattle.std.specs.Prelude.{ℕ, ◌+◌, ◌-◌, ◌≤◌, ◌==◌, List, [], ◌∷◌, ◌++◌, map, drop, if◌then◌else◌}
 use Rattle.st_units.specs.declared.rows.DevRow.{DevRow}
 use Rattle.st_seg.specs.Blocks.{Block, blocks_from}
-use Rattle.st_rules.specs.Sums.{usable_blocks, room}
-use Rattle.st_rules.specs.declared.TheConstants.{FLEX_BLOCKS, MIN_DEVICE_SECTORS, MAX_SECTORS}
+use Rattle.st_limits.specs.Sums.{usable_blocks, room}
+use Rattle.st_limits.specs.declared.TheConstants.{FLEX_BLOCKS, MIN_DEVICE_SECTORS, MAX_SECTORS}
 
 -- what a data tier stands for: the sectors of its devices, in order, and the blocks that are allocated
 pub record Tier : Type 0 where

@@ -4,7 +4,7 @@ ghost use Rattle.st_seg.specs.Stock.{added};
 ghost use Rattle.st_datatier.specs.Tier.{IsDeviceSize, data_blocks, first_block_of, sectors_of};
 
 use crate::size::usable_blocks;
-use st_rules::FLEX_BLOCKS;
+use st_limits::FLEX_BLOCKS;
 use st_seg::SegAlloc;
 use st_units::{DevRow, NoMemory};
 

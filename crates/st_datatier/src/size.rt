@@ -1,8 +1,8 @@
 ghost use Rattle.std.specs.Prelude.{◌≡◌, ◌↔◌, IsTrue};
 ghost use Rattle.st_datatier.specs.Tier.{IsDeviceSize};
-ghost use Rattle.st_rules.specs.Sums.{usable_blocks};
+ghost use Rattle.st_limits.specs.Sums.{usable_blocks};
 
-use st_rules::{BLOCK_SECTORS, MAX_SECTORS, MIN_DEVICE_SECTORS, RESERVED_SECTORS};
+use st_limits::{BLOCK_SECTORS, MAX_SECTORS, MIN_DEVICE_SECTORS, RESERVED_SECTORS};
 
 /// Whether a device of a pool may have so many sectors.
 pub fn is_device_size(sectors: u64) -> bool

@@ -1,7 +1,7 @@
 ghost use Rattle.std.specs.Prelude.{◌≡◌, ℕ, ◌+◌, ◌<◌, ◌≤◌, [], length, take, Err, OnOk, OnErr, IfOk, IfErr};
 ghost use Rattle.std.specs.List.{All};
 ghost use Rattle.st_seg.specs.declared.fault.SegFault.TheVariants.{NoRoom};
-ghost use Rattle.st_rules.specs.Sums as sums;
+ghost use Rattle.st_limits.specs.Sums as sums;
 ghost use Rattle.st_datatier.specs.Tier.{IsDeviceSize, data_blocks, free_of, sectors_of, with_allocated, with_devices};
 
 use crate::add::add_rows;

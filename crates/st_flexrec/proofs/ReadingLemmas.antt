@@ -2,12 +2,12 @@
 use Rattle.std.proofs.Common.{◌≡◌, ℕ, ◌+◌, ◌*◌, ◌≤◌, List, [], ◌++◌, length, take, drop, Result, Ok, Err, refl, sym, ap, subst, ◌∙◌, append_assoc, arith}
 use Rattle.std.proofs.lemmas.List.{take_at, drop_at, take-append-drop, length-append, length-take-le, length-drop}
 use Rattle.st_units.specs.declared.rows.FsRow.{FsRow}
-use Rattle.st_recfields.specs.declared.fault.RecFault.{RecFault}
-use Rattle.st_recfields.specs.declared.fault.RecFault.TheVariants.{NotARecord, OutOfMemory}
-use Rattle.st_recfields.specs.Rows.{Reads, Spells, AllFit, rows_text}
-use Rattle.st_recfields.specs.FsRows.{FsFits, fs_text, fs_fields}
-use Rattle.st_recfields.specs.FsLaws.{fs_width, fs_reads_back}
-use Rattle.st_recfields.proofs.RowsLemmas.{length-rows_text, same_row, same_rows, same_front}
+use Rattle.st_recrows.specs.declared.fault.RecFault.{RecFault}
+use Rattle.st_recrows.specs.declared.fault.RecFault.TheVariants.{NotARecord, OutOfMemory}
+use Rattle.st_recrows.specs.Rows.{Reads, Spells, AllFit, rows_text}
+use Rattle.st_recrows.specs.FsRows.{FsFits, fs_text, fs_fields}
+use Rattle.st_recrows.specs.FsLaws.{fs_width, fs_reads_back}
+use Rattle.st_recrows.proofs.RowsLemmas.{length-rows_text, same_row, same_rows, same_front}
 use Rattle.st_flexrec.specs.declared.head.FlexHead.{FlexHead}
 use Rattle.st_flexrec.specs.declared.record.FlexRec.{FlexRec}
 use Rattle.st_flexrec.specs.declared.rows.MapRow.{MapRow}
@@ -88,7 +88,7 @@ bad_cells head rest others part n k OutOfMemory is_n is_k is_others is_part none
 pub with_rows : (head : FlexHead) (rest front others middle back : List ℕ) (n k : ℕ) (filesystems : List FsRow) (mappings : List MapRow) (cells : List CellRow) → HeadFits head
     → n ≡ head.filesystems * 160 → k ≡ head.mappings * 12 → length rest ≡ n + k + head.cells * 12 → front ≡ take n rest → others ≡ drop n rest → middle ≡ take k others → back ≡ drop k others
     → Spells (AllFit FsFits) (rows_text fs_text) front filesystems → Spells (AllFit MapFits) (rows_text map_text) middle mappings → Spells (AllFit CellFits) (rows_text cell_text) back cells
-    → Follows head rest (record { serial = head.serial; next_fs = head.next_fs; next_cell = head.next_cell; filesystems = filesystems; mappings = mappings; cells = cells })
+    → Follows head rest (record { version2 = head.version2; serial = head.serial; next_fs = head.next_fs; next_cell = head.next_cell; filesystems = filesystems; mappings = mappings; cells = cells })
 with_rows head rest front others middle back n k filesystems mappings cells fit is_n is_k size is_front is_others is_middle is_back of_fs of_maps of_cells =
     let front_len : length front ≡ n = ap length is_front ∙ length-take-le n rest (omega arith) in
     let others_len : length others ≡ k + head.cells * 12 = ap length is_others ∙ length-drop n rest ∙ omega arith in
@@ -100,9 +100,9 @@ with_rows head rest front others middle back n k filesystems mappings cells fit 
     let fs_count : length filesystems ≡ head.filesystems = omega (arith, front_len, fs_len, is_n) in
     let map_count : length mappings ≡ head.mappings = omega (arith, middle_len, map_len, is_k) in
     let cell_count : length cells ≡ head.cells = omega (arith, back_len, cell_len) in
-    let made : FlexRec = record { serial = head.serial; next_fs = head.next_fs; next_cell = head.next_cell; filesystems = filesystems; mappings = mappings; cells = cells } in
+    let made : FlexRec = record { version2 = head.version2; serial = head.serial; next_fs = head.next_fs; next_cell = head.next_cell; filesystems = filesystems; mappings = mappings; cells = cells } in
     let same : head_of made ≡ head =
-    λ i. record { serial = head.serial; next_fs = head.next_fs; next_cell = head.next_cell; filesystems = fs_count i; mappings = map_count i; cells = cell_count i } in
+    λ i. record { serial = head.serial; next_fs = head.next_fs; next_cell = head.next_cell; version2 = head.version2; filesystems = fs_count i; mappings = map_count i; cells = cell_count i } in
     let first : take n rest ≡ rows_text fs_text filesystems = sym is_front ∙ of_fs.spelled in
     let second : take k others ≡ rows_text map_text mappings = sym is_middle ∙ of_maps.spelled in
     let third : drop k others ≡ rows_text cell_text cells = sym is_back ∙ of_cells.spelled in
@@ -159,7 +159,7 @@ same_record a b x y fa fb e =
     let filesystems = same_rows FsFits fs_text fs_fields 160 fs_width fs_reads_back a.filesystems b.filesystems maps_a maps_b fa.filesystems fb.filesystems (ap (λ (h : FlexHead). h.filesystems) head) heads.1 in
     let mappings = same_rows MapFits map_text map_fields 12 map_width map_reads_back a.mappings b.mappings cells_a cells_b fa.mappings fb.mappings (ap (λ (h : FlexHead). h.mappings) head) filesystems.1 in
     let cells = same_rows CellFits cell_text cell_fields 12 cell_width cell_reads_back a.cells b.cells x y fa.cells fb.cells (ap (λ (h : FlexHead). h.cells) head) mappings.1 in
-    ((λ i. record { serial = (head i).serial; next_fs = (head i).next_fs; next_cell = (head i).next_cell; filesystems = filesystems.0 i; mappings = mappings.0 i; cells = cells.0 i }), cells.1)
+    ((λ i. record { version2 = (head i).version2; serial = (head i).serial; next_fs = (head i).next_fs; next_cell = (head i).next_cell; filesystems = filesystems.0 i; mappings = mappings.0 i; cells = cells.0 i }), cells.1)
 
 -- what was read is of the generation, or nothing is spelled so
 pub invalid : (bytes : List ℕ) (generation : ℕ) (rec : FlexRec) → Spells RecFits record_text bytes rec → (IsFlexRec generation rec → ⊥) → (other : FlexRec) → Spells (IsFlexRec generation) record_text bytes other → ⊥

@@ -1,7 +1,7 @@
 -- The flex record: its one spelling.
 use Rattle.std.specs.Prelude.{ℕ, List, ◌++◌, length}
-use Rattle.st_recfields.specs.Rows.{AllFit, rows_text}
-use Rattle.st_recfields.specs.FsRows.{FsFits, fs_text}
+use Rattle.st_recrows.specs.Rows.{AllFit, rows_text}
+use Rattle.st_recrows.specs.FsRows.{FsFits, fs_text}
 use Rattle.st_flexrec.specs.declared.head.FlexHead.{FlexHead}
 use Rattle.st_flexrec.specs.declared.record.FlexRec.{FlexRec}
 use Rattle.st_flexrec.specs.Head.{HeadFits, head_text}
@@ -13,6 +13,7 @@ head_of rec = record {
   next_fs = rec.next_fs;
   next_cell = rec.next_cell;
   filesystems = length rec.filesystems;
+  version2 = rec.version2;
   mappings = length rec.mappings;
   cells = length rec.cells;
 }

@@ -1,16 +1,28 @@
 ghost use Rattle.std.specs.Prelude.{◌≡◌, ◌<◌, Bool, true, length, IfOk};
 ghost use Rattle.std.specs.Bool.{Decides};
-ghost use Rattle.st_flexrec.specs.Conditions.{has_few_rows, counts_from_one, KeepsConditions, is_within};
+ghost use Rattle.std.specs.List.{list_all};
+ghost use Rattle.st_flexrec.specs.Conditions.{most_filesystems, is_unmarked, has_few_rows, counts_from_one, KeepsConditions, is_within};
 
 use crate::cells::cells_fit;
 use crate::filesystems::filesystems_fit;
 use crate::mappings::mappings_fit;
 use crate::record::FlexRec;
 use st_units::NoMemory;
+use st_units::FsRow;
 use std::alloc::Global;
 
-/// The most filesystems of a pool.
-const MOST_FILESYSTEMS: usize = 128;
+/// The most filesystems of a pool, and the most serials of them that a commit takes.
+fn most_filesystems(version2: bool) -> u64
+    ensures { result ≡ most_filesystems version2 }
+{
+    if version2 { 256 } else { 128 }
+}
+
+fn are_unmarked(rows: &[FsRow]) -> bool
+    ensures { result ≡ list_all is_unmarked rows.now }
+{
+    rows.iter().all(|row| !row.merge)
+}
 
 /// The most mappings of a pool.
 const MOST_MAPPINGS: usize = 32_768;
@@ -21,9 +33,6 @@ const MOST_CELLS: usize = 32_768;
 /// How many cell numbers a commit takes at most.
 const CELLS_OF_COMMIT: u64 = 2;
 
-/// How many serials of filesystems a commit takes at most.
-const FILESYSTEMS_OF_COMMIT: u64 = 128;
-
 /// Whether the record keeps all conditions that don't speak of the generation.
 pub fn keeps_conditions(alloc: Global, rec: &FlexRec) -> Result<bool, NoMemory>
     ensures { IfOk result (λ kept. Decides kept (KeepsConditions rec.now)) }
@@ -33,6 +42,9 @@ pub fn keeps_conditions(alloc: Global, rec: &FlexRec) -> Result<bool, NoMemory>
     }
     let filesystems = rec.filesystems.items();
     let mappings = rec.mappings.items();
+    if !are_unmarked(filesystems) {
+        return Ok(false);
+    }
     if !filesystems_fit(rec.next_fs, filesystems) {
         return Ok(false);
     }
@@ -45,7 +57,7 @@ pub fn keeps_conditions(alloc: Global, rec: &FlexRec) -> Result<bool, NoMemory>
 fn has_few_rows(rec: &FlexRec) -> bool
     ensures { result ≡ has_few_rows rec.now }
 {
-    rec.filesystems.len() <= MOST_FILESYSTEMS
+    rec.filesystems.len() as u64 <= most_filesystems(rec.version2)
         && rec.mappings.len() <= MOST_MAPPINGS
         && rec.cells.len() <= MOST_CELLS
 }
@@ -61,5 +73,5 @@ pub fn is_within(generation: u64, rec: &FlexRec) -> bool
     ensures { result ≡ is_within generation rec.now }
 {
     rec.next_cell <= generation.saturating_mul(CELLS_OF_COMMIT)
-        && rec.next_fs <= generation.saturating_mul(FILESYSTEMS_OF_COMMIT)
+        && rec.next_fs <= generation.saturating_mul(most_filesystems(rec.version2))
 }

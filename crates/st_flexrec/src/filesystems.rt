@@ -28,7 +28,7 @@ impl InOrder for FsRow {
 
 /// Whether the rows keep their conditions, where this is the next serial.
 pub fn filesystems_fit(next: u64, rows: &[FsRow]) -> bool
-    requires { length rows.now ≤ 128 }
+    requires { length rows.now ≤ 256 }
     ensures { Decides result (FilesystemsFit next rows.now) }
 {
     rises(rows) && each_fits(next, rows) && have_earlier_origins(rows) && have_own_names(rows)
@@ -105,7 +105,7 @@ fn have_other_names(row: &FsRow, others: &[FsRow]) -> bool
     others.iter().all(|other| has_other_name(row, other))
 }
 
-/// At most 128 rows are compared with each other.
+/// At most 256 rows are compared with each other.
 fn have_own_names(rows: &[FsRow]) -> bool
     ensures { result ≡ have_own_names rows.now }
 {

@@ -1,10 +1,21 @@
+ghost use Rattle.std.specs.Prelude.{◌≡◌};
+ghost use Rattle.st_flexrec.specs.Head.{version_number};
+
 use st_fields::{put_u16, put_u32, put_u64, u16_at, u32_at, u64_at};
-use st_recfields::{RecFault, Row};
+use st_recrows::{RecFault, Row};
 use st_units::NoMemory;
 use std::alloc::Global;
 
 /// How many bytes the head has.
 pub const HEAD_WIDTH: usize = 36;
+
+const VERSION_2: u16 = 2;
+
+fn number_of(version2: bool) -> u16
+    ensures { result ≡ version_number version2 }
+{
+    if version2 { VERSION_2 } else { 0 }
+}
 
 /// What stands in front of the rows.
 #[derive(Clone, Copy, Debug, PartialEq, Eq)]
@@ -14,6 +25,8 @@ pub struct FlexHead {
     pub next_cell: u64,
     /// How many rows of filesystems follow.
     pub filesystems: u16,
+    /// The record is of version 2.
+    pub version2: bool,
     /// How many rows of mappings follow these.
     pub mappings: u32,
     /// How many rows of cells follow these.
@@ -21,7 +34,6 @@ pub struct FlexHead {
 }
 
 impl FlexHead {
-    ghost use Rattle.std.specs.Prelude.{◌≡◌};
     ghost use Rattle.st_flexrec.specs.Head.{head_text};
 
     fn bytes(&self) -> [u8; 36]
@@ -32,7 +44,7 @@ impl FlexHead {
         put_u64(&mut out, 8, self.next_fs);
         put_u64(&mut out, 16, self.next_cell);
         put_u16(&mut out, 24, self.filesystems);
-        put_u16(&mut out, 26, 0);
+        put_u16(&mut out, 26, number_of(self.version2));
         put_u32(&mut out, 28, self.mappings);
         put_u32(&mut out, 32, self.cells);
         out
@@ -70,6 +82,7 @@ impl Row for FlexHead {
             next_fs: u64_at(bytes, 8),
             next_cell: u64_at(bytes, 16),
             filesystems: u16_at(bytes, 24),
+            version2: u16_at(bytes, 26) == VERSION_2,
             mappings: u32_at(bytes, 28),
             cells: u32_at(bytes, 32),
         })

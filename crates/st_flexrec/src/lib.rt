@@ -17,4 +17,4 @@ mod rows;
 pub use conditions::{is_within, keeps_conditions};
 pub use record::{FlexRec, decode, encode};
 pub use rows::{CellRow, CellRows, FsRows, MapRow, MapRows};
-pub use st_recfields::RecFault;
+pub use st_recrows::RecFault;

@@ -1,5 +1,5 @@
 ghost use Rattle.std.specs.Prelude.{◌≡◌, ◌<◌, ◌^◌, ℕ, length, IfOk};
-ghost use Rattle.st_recfields.specs.Rows.{Reads, Spells};
+ghost use Rattle.st_recrows.specs.Rows.{Reads, Spells};
 ghost use Rattle.st_flexrec.specs.Head.{HeadFits};
 ghost use Rattle.st_flexrec.specs.Record.{RecFits, record_text};
 ghost use Rattle.st_flexrec.specs.Reading.{Follows};
@@ -8,13 +8,15 @@ ghost use Rattle.st_flexrec.specs.Conditions.{KeepsConditions, IsFlexRec};
 use crate::conditions::{is_within, keeps_conditions};
 use crate::head::{FlexHead, HEAD_WIDTH};
 use crate::rows::{CELL_WIDTH, CellRows, FsRows, MAP_WIDTH, MapRows};
-use st_recfields::{FS_WIDTH, RecFault, Row, put_rows, read_row, read_rows};
+use st_recrows::{FS_WIDTH, RecFault, Row, put_rows, read_row, read_rows};
 use st_units::{Bytes, NoMemory};
 use std::alloc::Global;
 
 /// What the flex record of a pool says.
 #[derive(Drop)]
 pub struct FlexRec {
+    /// The record is of version 2: up to 256 filesystems, with marks for a merge.
+    pub version2: bool,
     /// The pool's serial.
     pub serial: u64,
     /// The serial that the next filesystem gets.
@@ -37,6 +39,7 @@ pub fn encode(alloc: Global, rec: &FlexRec) -> Result<Bytes, NoMemory>
         next_fs: rec.next_fs,
         next_cell: rec.next_cell,
         filesystems: rec.filesystems.len() as u16,
+        version2: rec.version2,
         mappings: rec.mappings.len() as u32,
         cells: rec.cells.len() as u32,
     };
@@ -106,6 +109,7 @@ fn read_rest(alloc: Global, head: FlexHead, rest: &[u8]) -> Result<FlexRec, RecF
     match read_rows(alloc, cell_rows) {
         Err(fault) => Err(fault),
         Ok(cells) => Ok(FlexRec {
+            version2: head.version2,
             serial: head.serial,
             next_fs: head.next_fs,
             next_cell: head.next_cell,

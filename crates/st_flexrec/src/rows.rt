@@ -1,7 +1,7 @@
 ghost use Rattle.std.specs.Prelude.{◌≡◌, ℕ, List};
 
 use st_fields::{put_u16, put_u32, put_u64, u16_at, u32_at, u64_at};
-use st_recfields::{RecFault, Row};
+use st_recrows::{RecFault, Row};
 use st_units::{FsRow, ItemList, NoMemory};
 use std::alloc::Global;
 

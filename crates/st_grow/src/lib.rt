@@ -3,9 +3,9 @@
 
 ghost use Rattle.std.specs.Prelude.{◌≡◌, ◌+◌, ◌^◌, ◌≤◌, IfSome};
 ghost use Rattle.std.specs.Option.{ForSome};
-ghost use Rattle.st_rules.specs.Growth as rule;
+ghost use Rattle.st_limits.specs.Growth as rule;
 
-use st_rules::{BLOCK_SECTORS, EXTENSION_STEP, LOW_WATER, MAX_SECTORS};
+use st_limits::{BLOCK_SECTORS, EXTENSION_STEP, LOW_WATER, MAX_SECTORS};
 
 /// The blocks that are to be added to the `allocated` ones, of which `used` are mapped; `room` is the most that there may be.
 pub fn extension(allocated: u64, used: u64, room: u64) -> u64

@@ -4,4 +4,7 @@ pub mod Held
 pub mod Histories
 pub mod Short
 pub mod Snoc
+pub mod Told
 pub mod ValidReplay
+pub mod Own
+pub mod Over

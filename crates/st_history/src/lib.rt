@@ -4,5 +4,5 @@
 mod laws;
 mod log;
 
-pub use laws::{granted_is_live, logs_agree_on_held};
+pub use laws::{entries_go_over, granted_is_live, logs_agree_on_held, own_events_tell};
 pub use log::{Event, Log};

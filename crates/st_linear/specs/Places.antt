@@ -2,7 +2,7 @@
 use Rattle.std.specs.Prelude.{ℕ, ◌+◌, ◌*◌, List, Option, slice_get}
 use Rattle.std.specs.Option.{option_map}
 use Rattle.st_seg.specs.Blocks.{Block}
-use Rattle.st_rules.specs.declared.TheConstants.{RESERVED_SECTORS, BLOCK_SECTORS}
+use Rattle.st_limits.specs.declared.TheConstants.{RESERVED_SECTORS, BLOCK_SECTORS}
 
 -- a block's device, and its first sector there
 abbrev pub place_of : Block → ℕ × ℕ

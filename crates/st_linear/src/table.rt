@@ -5,7 +5,7 @@ ghost use Rattle.st_seg.specs.Blocks.{IsSegment, NoneTwice, blocks_of};
 ghost use Rattle.st_linear.specs.Places.{place_at};
 ghost use Rattle.st_linear.specs.Runs.{AreRuns, blocks_of_runs};
 
-use st_rules::{BLOCK_SECTORS, RESERVED_SECTORS};
+use st_limits::{BLOCK_SECTORS, RESERVED_SECTORS};
 use st_units::{NoMemory, SegList, Segment};
 use std::alloc::Global;
 use std::marker::Model;

@@ -1,8 +1,8 @@
 -- what each call has to show, from what the fields were and what its helpers ensure
 use Rattle.std.proofs.Common.{◌≡◌, ℕ, ◌+◌, ◌<◌, true, false, List, ◌∷◌, length, get_or, set, sym, ◌∙◌, ap, subst, arith}
 use Rattle.std.proofs.lemmas.Grind.{get_or_default_zero}
-use Rattle.st_rules.specs.Cache.{has}
-use Rattle.st_rules.proofs.Members.{has_head, has_tail}
+use Rattle.st_limits.specs.Cache.{has}
+use Rattle.st_limits.proofs.Members.{has_head, has_tail}
 use Rattle.st_links.specs.Arena.{Arena, row, is_linked, pushed_front, pushed_back, unlinked, fronted}
 use Rattle.st_links.specs.Ring.{Linked, Tied, rows, taken_next, taken_prev, put_next, put_prev}
 use Rattle.st_links.proofs.Rings.{next_in, prev_in, last_is}

@@ -1,9 +1,9 @@
 -- what follows a node in a ring that is written as a list, its sentinel first
 use Rattle.std.proofs.Common.{◌≡◌, ℕ, true, false, List, [], ◌∷◌, ◌++◌, cond, eqb, ◌⊎◌, inl, inr, refl, sym, ◌∙◌, ap, subst}
 use Rattle.std.proofs.lemmas.Bool.{cases_eq, eq-eqb, ne_eqb, or_left, cond-true, cond-false, false≢true, both_ways, false_from_ne_true}
-use Rattle.st_rules.specs.Cache.{has, without, AreDistinct}
+use Rattle.st_limits.specs.Cache.{has, without, AreDistinct}
 use Rattle.st_links.specs.Ring.{first_or, follower}
-use Rattle.st_rules.proofs.Members.{has_head, has_tail, has_cases, lacks_parts, lacks_from, differ_by_list, without_here, without_there, without_absent}
+use Rattle.st_limits.proofs.Members.{has_head, has_tail, has_cases, lacks_parts, lacks_from, differ_by_list, without_here, without_there, without_absent}
 
 pub follower_here : (d x : ℕ) (xs : List ℕ) → follower d (x ∷ xs) x ≡ first_or d xs
 follower_here d x xs = cond-true (eqb x x) (first_or d xs) (follower d xs x) (eq-eqb x x refl)

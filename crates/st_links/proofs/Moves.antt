@@ -3,8 +3,8 @@ use Rattle.std.proofs.Common.{◌≡◌, ℕ, zero, suc, ◌+◌, ◌<◌, true,
 use Rattle.std.proofs.Math.ListN.{get_or-map}
 use Rattle.std.proofs.lemmas.Bool.{cases_eq, both_ways, or_cases, or_left, or_right, false≢true, false_from_ne_true}
 use Rattle.std.proofs.lemmas.List.{get_or-set_other, get_or-set_same, length-set, length-map}
-use Rattle.st_rules.specs.Cache.{has, without, promoted}
-use Rattle.st_rules.proofs.Members.{has_tail, has_cases, lacks_from, has_of_without, without_absent}
+use Rattle.st_limits.specs.Cache.{has, without, promoted}
+use Rattle.st_limits.proofs.Members.{has_tail, has_cases, lacks_from, has_of_without, without_absent}
 use Rattle.st_links.specs.Arena.{row, is_linked, unlinked, fronted}
 use Rattle.st_links.specs.Ring.{Ring, Linked, put_next, put_prev}
 use Rattle.st_links.proofs.Follow.{inserted, has_of_inserted}

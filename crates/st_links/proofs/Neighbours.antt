@@ -2,8 +2,8 @@
 use Rattle.std.proofs.Common.{◌≡◌, ℕ, zero, suc, ◌+◌, ◌<◌, ◌≤◌, true, false, List, [], ◌∷◌, length, get_or, eqb, ltb, Option, Some, None, inl, inr, refl, sym, ◌∙◌, ap, arith}
 use Rattle.std.specs.List.{slice_get}
 use Rattle.std.proofs.lemmas.Bool.{cases_eq, both_ways, eq-eqb, ne_eqb, cond-true, cond-false, false≢true, false_from_ne_true, lt-ltb, le-ltb}
-use Rattle.st_rules.specs.Cache.{has}
-use Rattle.st_rules.proofs.Members.{has_head, has_tail, has_cases, differ_by_list}
+use Rattle.st_limits.specs.Cache.{has}
+use Rattle.st_limits.proofs.Members.{has_head, has_tail, has_cases, differ_by_list}
 use Rattle.st_links.specs.Arena.{row, is_linked, first_of, last_of, after, before_from, before, next_of, prev_of}
 use Rattle.st_links.specs.Ring.{first_or, follower, as_place, Tied}
 use Rattle.st_links.proofs.Follow.{follower_there, leader, last_from}

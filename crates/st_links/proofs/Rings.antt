@@ -2,8 +2,8 @@
 use Rattle.std.proofs.Common.{◌≡◌, ℕ, ◌<◌, ◌≢◌, true, false, List, ◌∷◌, length, get_or, set, ◌⊎◌, inl, inr, sym, ◌∙◌, ap, subst}
 use Rattle.std.proofs.lemmas.Bool.{cases_eq}
 use Rattle.std.proofs.lemmas.List.{get_or-set_other, get_or-set_same, length-set}
-use Rattle.st_rules.specs.Cache.{has, without, AreDistinct}
-use Rattle.st_rules.proofs.Members.{has_head, has_tail, differ_by_list, without_there, has_of_without, AreDistinct-without}
+use Rattle.st_limits.specs.Cache.{has, without, AreDistinct}
+use Rattle.st_limits.proofs.Members.{has_head, has_tail, differ_by_list, without_there, has_of_without, AreDistinct-without}
 use Rattle.st_links.specs.Ring.{Ring, first_or, follower, put_next, put_prev}
 use Rattle.st_links.proofs.Follow.{follower_here, follower_in, follower-without_at, follower-without, inserted, follower-inserted_before, follower-inserted_at, follower-inserted, has_of_inserted, AreDistinct-inserted, leader, leader_in, follower-leader, last_from, last_from_in, follower-last}
 

@@ -3,8 +3,8 @@ use Rattle.std.proofs.Common.{◌≡◌, ℕ, zero, suc, ◌+◌, ◌<◌, ◌�
 use Rattle.std.specs.List.{IsDistinct, AllByRecursion}
 use Rattle.std.proofs.lemmas.Bool.{eq-eqb, ne_eqb, cond-true, cond-false}
 use Rattle.std.proofs.lemmas.Map.Steps.{length-le_from_distinct_below}
-use Rattle.st_rules.specs.Cache.{has, AreDistinct}
-use Rattle.st_rules.proofs.Members.{has_head, has_tail, lacks_parts, differ_by_list}
+use Rattle.st_limits.specs.Cache.{has, AreDistinct}
+use Rattle.st_limits.proofs.Members.{has_head, has_tail, lacks_parts, differ_by_list}
 use Rattle.st_links.specs.Arena.{row}
 use Rattle.st_links.specs.Ring.{first_or, follower, walk, rows_from, rows, Linked}
 use Rattle.st_links.proofs.Follow.{follower_here, follower_there}

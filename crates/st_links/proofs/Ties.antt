@@ -2,8 +2,8 @@
 use Rattle.std.proofs.Common.{◌≡◌, ℕ, zero, suc, ◌+◌, ◌<◌, true, false, List, [], ◌∷◌, ◌++◌, length, get_or, set, replicate, eqb, inl, inr, refl, sym, ◌∙◌, ap, subst, arith}
 use Rattle.std.proofs.lemmas.Bool.{cases_eq, cases_lt, both_ways, eq-eqb, cond-true, cond-false, false≢true, or_left}
 use Rattle.std.proofs.lemmas.List.{get_or-set_other, get_or-set_same, length-set, length-map, ext_get_or, get_or_past, length-replicate}
-use Rattle.st_rules.specs.Cache.{has, without, promoted, AreDistinct}
-use Rattle.st_rules.proofs.Members.{has_head, has_tail, has_cases, has-without, lacks_itself, without_absent}
+use Rattle.st_limits.specs.Cache.{has, without, promoted, AreDistinct}
+use Rattle.st_limits.proofs.Members.{has_head, has_tail, has_cases, has-without, lacks_itself, without_absent}
 use Rattle.st_links.specs.Arena.{row, is_linked, unlinked, fronted, pushed_front, pushed_back, IsArena}
 use Rattle.st_links.specs.Ring.{follower, Ring, Linked, Tied, put_next, put_prev}
 use Rattle.st_links.proofs.Follow.{follower_here, inserted, inserted_here, inserted-last, last_from, last_from_in}

@@ -1,7 +1,7 @@
 -- an arena of places, each of them in one of its lists or in none
 use Rattle.std.specs.Prelude.{◌≡◌, ℕ, ◌<◌, Bool, true, List, [], ◌∷◌, ◌++◌, length, map, nat_eq, slice_get, slice_set, slice_index_or, Option, Some, None, ◌-◌, if◌then◌else◌}
 use Rattle.std.specs.List.{list_any}
-use Rattle.st_rules.specs.Cache.{has, without, promoted, AreDistinct}
+use Rattle.st_limits.specs.Cache.{has, without, promoted, AreDistinct}
 
 pub record Arena : Type 0 where
   pub lists : List (List ℕ)

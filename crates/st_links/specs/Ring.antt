@@ -1,6 +1,6 @@
 -- how the arrays of `Links` stand for an arena: each list is a ring through a sentinel of its own, which is a node past the places
 use Rattle.std.specs.Prelude.{◌≡◌, ℕ, suc, zero, ◌+◌, ◌<◌, true, nat_eq, nat_lt, List, [], ◌∷◌, length, slice_index, slice_set, Option, Some, None, if◌then◌else◌}
-use Rattle.st_rules.specs.Cache.{has, AreDistinct}
+use Rattle.st_limits.specs.Cache.{has, AreDistinct}
 use Rattle.st_links.specs.Arena.{row}
 
 -- the first item, or d where there is none

@@ -5,10 +5,10 @@ use Rattle.std.specs.Str.{bytes_eq}
 use Rattle.std.proofs.lemmas.List.{drop_all}
 use Rattle.st_rack.specs.Device.{Path, DevState}
 use Rattle.st_rack.specs.Calls.{Devices, sectors_of, path_in}
-use Rattle.st_slabs.specs.Shelf.{look, insert_in, no_device}
-use Rattle.st_slabs.proofs.Order.{rises_none}
-use Rattle.st_slabs.proofs.Look.{bytes_eq-sym, sectors_look, is_in_some}
-use Rattle.st_slabs.proofs.Come.{look-insert_in, length-insert_in, rises-insert}
+use Rattle.st_shelf.specs.Shelf.{look, insert_in, no_device}
+use Rattle.st_shelf.proofs.Order.{rises_none}
+use Rattle.st_shelf.proofs.Look.{bytes_eq-sym, sectors_look, is_in_some}
+use Rattle.st_shelf.proofs.Come.{look-insert_in, length-insert_in, rises-insert}
 use Rattle.st_memrack.specs.Blank.{AreDistinct, Filled}
 
 abbrev Row : Type 0

@@ -1,7 +1,7 @@
 -- The rack in memory with faults, as its past and its list, and what its calls do to the states.
 use Rattle.std.proofs.Common.{inl, inr, List, Result, Ok, Err}
 use Rattle.st_rack.specs.Device.{Settling}
-use Rattle.st_slabs.specs.declared.past.Past.{Past}
+use Rattle.st_shelf.specs.declared.past.Past.{Past}
 use Rattle.st_sparse.specs.Sparse.{sparse_state}
 use Rattle.st_sparse.specs.declared.sparse.Sparse.{Sparse}
 use Rattle.st_memrack.specs.Ends.{SyncEnds}

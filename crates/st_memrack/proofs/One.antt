@@ -2,9 +2,9 @@
 use Rattle.std.proofs.Common.{◌≡◌, ◌≢◌, ℕ, List, get_or, slice_set, sym, ◌∙◌, ap, subst}
 use Rattle.st_rack.specs.Device.{Path, DevState}
 use Rattle.st_rack.specs.Moments.{OnDevice}
-use Rattle.st_slabs.specs.Shelf.{look, rows_of, state_in, IsFirst}
-use Rattle.st_slabs.proofs.Look.{first_path, look_first, look_set_same, look_set_other, look_set_kept, rows_set}
-use Rattle.st_slabs.proofs.Change.{one_device}
+use Rattle.st_shelf.specs.Shelf.{look, rows_of, state_in, IsFirst}
+use Rattle.st_shelf.proofs.Look.{first_path, look_first, look_set_same, look_set_other, look_set_kept, rows_set}
+use Rattle.st_shelf.proofs.Change.{one_device}
 use Rattle.st_memrack.specs.One.{OneStep}
 
 module _ {D : Type 0} (path : D → Path) (step : D → D → Type 0) (dev : Path) where

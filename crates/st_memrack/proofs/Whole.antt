@@ -4,11 +4,11 @@ use Rattle.st_rack.specs.Story.{Settled}
 use Rattle.st_rack.specs.Device.{Path, DevState, State, Synced, Settling, Cut}
 use Rattle.st_rack.specs.Calls.{Rose, Has, sectors_of}
 use Rattle.st_rack.proofs.Look.{has_or_not}
-use Rattle.st_slabs.specs.Shelf.{rows_of, state_in, is_in, no_device, IsFirst}
-use Rattle.st_slabs.specs.Past.{depth, was}
-use Rattle.st_slabs.specs.declared.past.Past.{Past}
-use Rattle.st_slabs.proofs.Look.{look_first, look_set_same, not_in}
-use Rattle.st_slabs.proofs.Change.{was_now}
+use Rattle.st_shelf.specs.Shelf.{rows_of, state_in, is_in, no_device, IsFirst}
+use Rattle.st_shelf.specs.Past.{depth, was}
+use Rattle.st_shelf.specs.declared.past.Past.{Past}
+use Rattle.st_shelf.proofs.Look.{look_first, look_set_same, not_in}
+use Rattle.st_shelf.proofs.Change.{was_now}
 use Rattle.st_memrack.specs.Slab.{slab_path, slab_state}
 use Rattle.st_memrack.specs.Blank.{IsSettled}
 use Rattle.st_memrack.specs.declared.slab.Slab.{Slab}

@@ -5,8 +5,8 @@ use Rattle.std.specs.Str.{bytes_eq}
 use Rattle.std.proofs.lemmas.Bool.{cases_Bool}
 use Rattle.st_rack.specs.Device.{Path, DevState, Cut}
 use Rattle.st_rack.specs.Moments.{AllCut}
-use Rattle.st_slabs.specs.Shelf.{look, rows_of, state_in, is_in, no_device}
-use Rattle.st_slabs.proofs.Look.{look_none, not_in, has_in}
+use Rattle.st_shelf.specs.Shelf.{look, rows_of, state_in, is_in, no_device}
+use Rattle.st_shelf.proofs.Look.{look_none, not_in, has_in}
 
 -- the first k have been changed, and the others are the same
 abbrev pub UpTo : {D : Type 0} → (D → D → Type 0) → ℕ → List D → List D → Type 0

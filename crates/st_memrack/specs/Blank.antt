@@ -4,7 +4,7 @@ use Rattle.std.specs.List.{IsDistinct}
 use Rattle.std.specs.Str.{bytes_eq}
 use Rattle.st_rack.specs.Device.{Path, DevState, State, Synced}
 use Rattle.st_rack.specs.Calls.{Devices, Rises, sectors_of, path_in}
-use Rattle.st_slabs.specs.Shelf.{look, rows_of, state_in, no_device}
+use Rattle.st_shelf.specs.Shelf.{look, rows_of, state_in, no_device}
 use Rattle.st_memrack.specs.Slab.{slab_path, slab_size, slab_state, slab_reads}
 use Rattle.st_memrack.specs.declared.slab.Slab.{Slab}
 

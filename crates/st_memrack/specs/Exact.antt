@@ -4,7 +4,7 @@ use Rattle.std.specs.Prelude.{◌≡◌, true, false, ℕ, ◌+◌, ◌-◌, ◌
 use Rattle.std.specs.List.{AllZip}
 use Rattle.st_rack.specs.Device.{Path}
 use Rattle.st_rack.specs.Calls.{names}
-use Rattle.st_slabs.specs.Shelf.{join_in}
+use Rattle.st_shelf.specs.Shelf.{join_in}
 use Rattle.st_sparse.specs.Sparse.{sparse_path}
 use Rattle.st_sparse.specs.declared.arms.Arm.{Arm}
 use Rattle.st_sparse.specs.declared.kinds.Kind.TheVariants.{Read, Write, Sync}

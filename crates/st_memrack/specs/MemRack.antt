@@ -2,8 +2,8 @@
 use Rattle.std.specs.Prelude.{ℕ, ◌+◌, ◌-◌, ◌^◌, min, Bool, List, vec_capacity, vec_len, if◌then◌else◌}
 use Rattle.st_rack.specs.Device.{Path, State}
 use Rattle.st_rack.specs.Calls.{Devices}
-use Rattle.st_slabs.specs.Shelf.{look, rows_of, state_in}
-use Rattle.st_slabs.specs.Past.{depth, was}
+use Rattle.st_shelf.specs.Shelf.{look, rows_of, state_in}
+use Rattle.st_shelf.specs.Past.{depth, was}
 use Rattle.st_sparse.specs.Sparse.{sparse_path, sparse_size, sparse_state, sparse_reads}
 use Rattle.st_sparse.specs.declared.sparse.Sparse.{Sparse}
 use Rattle.st_memrack.specs.declared.memrack.MemRack.{MemRack}

@@ -1,7 +1,7 @@
 -- One device of a list makes a step, and the others stay as they are.
 use Rattle.std.specs.Prelude.{◌≡◌, ℕ, List, get_or, slice_set}
 use Rattle.st_rack.specs.Device.{Path}
-use Rattle.st_slabs.specs.Shelf.{IsFirst}
+use Rattle.st_shelf.specs.Shelf.{IsFirst}
 
 pub record OneStep {D : Type 0} (path : D → Path) (step : D → D → Type 0) (dev : Path) (old new : List D) : Type 0 where
   pub place : ℕ

@@ -2,7 +2,7 @@
 use Rattle.std.specs.Prelude.{ℕ, ◌/◌, List, length, slice_index}
 use Rattle.st_rack.specs.Story.{Content}
 use Rattle.st_rack.specs.Device.{Path, DevState}
-use Rattle.st_slabs.specs.Told.{story_of}
+use Rattle.st_shelf.specs.Told.{story_of}
 use Rattle.st_memrack.specs.declared.slab.Slab.{Slab}
 
 abbrev pub content_of : List ℕ → Content

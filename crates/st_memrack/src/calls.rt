@@ -1,13 +1,13 @@
 ghost use Rattle.std.specs.Prelude.{◌≡◌, length, vec_len, vec_capacity, ℕ};
 ghost use Rattle.std.specs.List.{AllZip};
 ghost use Rattle.st_rack.specs.Calls.{Rises, Has, IsWithin};
-ghost use Rattle.st_slabs.specs.Shelf.{rows_of};
+ghost use Rattle.st_shelf.specs.Shelf.{rows_of};
 ghost use Rattle.st_sparse.specs.Sparse.{sparse_path, sparse_size};
 ghost use Rattle.st_memrack.specs.One.{OneStep};
 ghost use Rattle.st_memrack.specs.Ends.{ArmEnds, ReadEnds, WriteEnds, SyncEnds, CycleEnds};
 
 use st_rack::DevFault;
-use st_slabs::first_of;
+use st_shelf::first_of;
 use st_sparse::{Arm, Pick, Sparse, WriteFault};
 use st_units::{DevPath, NoMemory};
 

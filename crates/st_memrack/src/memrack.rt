@@ -1,14 +1,14 @@
 ghost use Rattle.std.specs.Prelude.{◌≡◌, ◌+◌, ◌-◌, ◌^◌, ◌<◌, ◌≤◌, min, ℕ, IfOk, true, [], length, vec_capacity, vec_len, if◌then◌else◌};
 ghost use Rattle.std.proofs.Props.{props};
 ghost use Rattle.st_rack.specs.Calls.{Rises};
-ghost use Rattle.st_slabs.specs.Shelf.{rows_of};
+ghost use Rattle.st_shelf.specs.Shelf.{rows_of};
 ghost use Rattle.st_sparse.specs.Sparse.{sparse_path, sparse_size, sparse_state, sparse_reads};
 ghost use Rattle.st_memrack.specs.Blank.{AreDistinct, Filled};
 
 use crate::Record;
 use crate::calls::{arm_at, cycle_all, read_at, sync_at, write_at};
 use st_rack::{DevFault, Rack};
-use st_slabs::{Past, copied, find, insert, remember, remember_joined, take_in, take_out};
+use st_shelf::{Past, copied, find, insert, remember, remember_joined, take_in, take_out};
 use st_sparse::{Arm, How, Kind, Pick, Sparse};
 use st_units::{DevList, DevPath, NoMemory};
 use std::alloc::Global;

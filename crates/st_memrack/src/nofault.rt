@@ -2,15 +2,15 @@ ghost use Rattle.std.specs.Prelude.{◌≡◌, ◌+◌, ◌-◌, ◌<◌, ◌≤
 ghost use Rattle.std.proofs.Props.{props};
 ghost use Rattle.st_rack.specs.Calls.{Devices, Rises};
 ghost use Rattle.st_rack.specs.Device.{Path, State};
-ghost use Rattle.st_slabs.specs.Shelf.{look, rows_of, state_in};
-ghost use Rattle.st_slabs.specs.Past.{depth, was};
+ghost use Rattle.st_shelf.specs.Shelf.{look, rows_of, state_in};
+ghost use Rattle.st_shelf.specs.Past.{depth, was};
 ghost use Rattle.st_memrack.specs.Slab.{slab_path, slab_size, slab_state, slab_reads};
 ghost use Rattle.std.specs.List.{AllZip};
 ghost use Rattle.st_memrack.specs.Blank.{AreDistinct, IsBlank, Filled, IsSettled};
 
 use crate::Slab;
 use st_rack::{DevFault, Rack};
-use st_slabs::{
+use st_shelf::{
     Past, copied, find, first_of, insert, remember, remember_joined, take_in, take_out,
 };
 use st_units::{DevList, DevPath, NoMemory};

@@ -1,6 +1,6 @@
 ghost use Rattle.std.specs.Prelude.{◌≡◌, ◌+◌, ◌*◌, ◌<◌, ◌≤◌, ◌++◌, ◌-◌, ◌^◌, min, ℕ, length, take, drop, slice_index, IfOk};
 
-use st_slabs::{Device, Told, tell_settled, tell_write};
+use st_shelf::{Device, Told, tell_settled, tell_write};
 use st_units::{DevPath, NoMemory};
 use std::alloc::Global;
 use std::snapshot::Snapshot;
@@ -32,7 +32,7 @@ impl Slab {
     ghost use Rattle.st_rack.specs.Story.{Content};
     ghost use Rattle.st_rack.specs.Device.{cells, Touched, Written, Synced, Cut};
     ghost use Rattle.st_memrack.specs.Slab.{slab_path, slab_size, slab_state};
-    ghost use Rattle.st_slabs.specs.Shelf.{no_device};
+    ghost use Rattle.st_shelf.specs.Shelf.{no_device};
 
     /// A device of zeros.
     pub fn blank(alloc: Global, path: &DevPath, sectors: u64) -> Result<Slab, NoMemory>

@@ -107,9 +107,9 @@ call_keeps s name paths p q b _ e before h = h
 flight_keeps : (s : EngineState) (name : Text) (paths : List Text) (p q : PoolState) → Beside s name paths p q → (mode : PoolMode) → p.mode ≡ mode → IsValidIn p mode
     → IsFlight s p (flight_of mode) → IsFlight (with_pool s q) p (flight_of mode)
 flight_keeps s name paths p q b Up e state h = tt
-flight_keeps s name paths p q b (Down call) e state h = call_keeps s name paths p q b call (ap flight_of e) state h
+flight_keeps s name paths p q b (Down call) e state h = call_keeps s name paths p q b call (ap flight_of e) state.0 h
 flight_keeps s name paths p q b Stopped e state h = tt
-flight_keeps s name paths p q b (Unsettled call) e state h = call_keeps s name paths p q b call (ap flight_of e) state h
+flight_keeps s name paths p q b (Unsettled call) e state h = call_keeps s name paths p q b call (ap flight_of e) state.0 h
 flight_keeps s name paths p q b (Incomplete path) e state h = tt
 
 each_keeps : (s : EngineState) (name : Text) (paths : List Text) (q : PoolState) (ps : List PoolState) → IsNewOn s.next name (distinct paths) q → length s.pools < 16

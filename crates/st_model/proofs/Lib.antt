@@ -10,3 +10,4 @@ pub mod NewPool
 pub mod OnTable
 pub mod ValidCreate
 pub mod Validity
+pub mod Outcomes

@@ -17,7 +17,7 @@ use Rattle.st_model.specs.Step.{outcome, step}
 use Rattle.st_model.specs.Wanted.{want_of}
 
 -- no call on one pool is built yet
-on_pool : (s : EngineState) (call : Call) (env : Env) (name : Text) (mode : Mode) → want_of call ≡ wants.Some name mode → outcome s call env ≡ None
+pub on_pool : (s : EngineState) (call : Call) (env : Env) (name : Text) (mode : Mode) → want_of call ≡ wants.Some name mode → outcome s call env ≡ None
 on_pool s (CreatePool p devices) env name mode h = absurd cc
 on_pool s (DestroyPool p) env name mode h = refl
 on_pool s (StopPool p) env name mode h = refl

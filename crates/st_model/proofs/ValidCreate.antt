@@ -102,7 +102,7 @@ broken_joins : (s : EngineState) (name : Text) (paths : List Text) → AllByRecu
 broken_joins s name paths pools fresh = record {
   new = broken_is_new s.next name (distinct paths);
   small = record { few = omega arith; small = tt };
-  state = broken-begun s.next name paths;
+  state = (broken-begun s.next name paths, refl);
   there = (tt, All-distinct (λ path. is_there s.devices path ≡ true) paths fresh.there);
   flight = own-flight s name paths pools fresh;
 }

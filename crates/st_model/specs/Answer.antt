@@ -1,7 +1,7 @@
 -- replies, and the order in which a call's refusals are tried
 use Rattle.std.specs.Prelude.{ℕ, Bool, List, [], ◌∷◌, Option, Some, None, if◌then◌else◌}
 use Rattle.st_units.specs.declared.cause.Cause.{Cause}
-use Rattle.st_units.specs.declared.cause.Cause.TheVariants.{BadCall, BadName, EmptyDevices, NoSuchDevice, NameInUse, DeviceInUse, DeviceTooSmall, TooManyDevices, TooManyPools, Maintenance, PoolStopped, NotEmpty, NoSuchPool, MissingDevice, PoolVanished, CacheExists, NoCache, BadSize, TooManyFilesystems, OverProvision, NoSuchFilesystem, MappingFull, LimitBelowSize, LimitLower, OutOfRange, NoSpace, DeviceFault, OutOfMemory, Worn}
+use Rattle.st_units.specs.declared.cause.Cause.TheVariants.{BadCall, BadName, EmptyDevices, NoSuchDevice, NameInUse, DeviceInUse, DeviceTooSmall, TooManyDevices, TooManyPools, Maintenance, PoolStopped, NotEmpty, NoSuchPool, MissingDevice, PoolVanished, CacheExists, NoCache, BadSize, TooManyFilesystems, OverProvision, NoSuchFilesystem, MappingFull, LimitBelowSize, LimitLower, OutOfRange, NoSpace, DeviceFault, OutOfMemory, Worn, NoOrigin, MergeConflict}
 use Rattle.st_model.specs.declared.reply.Given.{Given}
 use Rattle.st_model.specs.declared.reply.Reply.{Reply}
 
@@ -36,6 +36,8 @@ code_of (NoSpace free needed) = 26
 code_of DeviceFault = 27
 code_of OutOfMemory = 28
 code_of Worn = 29
+code_of NoOrigin = 31
+code_of (MergeConflict name) = 32
 
 abbrev pub refused : Cause → Reply
 refused cause = record { code = code_of cause; result = None; cause = Some cause }

@@ -1,16 +1,18 @@
 -- laws of step
-use Rattle.std.specs.Prelude.{◌≡◌, false}
+use Rattle.std.specs.Prelude.{◌≡◌, false, Option, Some, None}
 use Rattle.std.specs.Str.{bytes_eq}
 use Rattle.st_wants.specs.declared.want.Mode.{Mode}
 use Rattle.st_wants.specs.declared.want.Mode.TheVariants.{Read}
+use Rattle.st_wants.specs.declared.want.Want.{Want}
 use Rattle.st_wants.specs.declared.want.Want.TheVariants as wants
 use Rattle.st_wants.specs.Wants.{mode_of}
 use Rattle.st_model.specs.declared.call.Call.{Call}
 use Rattle.st_model.specs.declared.entry.Env.{Env}
 use Rattle.st_model.specs.declared.state.EngineState.{EngineState}
 use Rattle.st_model.specs.Look.{Text}
-use Rattle.st_model.specs.Parts.{pool_at, started, table_of}
-use Rattle.st_model.specs.Step.{step}
+use Rattle.st_model.specs.declared.reply.Reply.{Reply}
+use Rattle.st_model.specs.Parts.{pool_at, started, table_of, Agree}
+use Rattle.st_model.specs.Step.{outcome, step}
 use Rattle.st_model.specs.Valid.{IsValid}
 use Rattle.st_model.specs.Wanted.{want_of}
 
@@ -36,3 +38,15 @@ Locality = (call : Call) (env : Env) (name : Text) (mode : Mode) → want_of cal
 -- a call that wants to read changes no state
 abbrev pub ReadsKeep : Type 0
 ReadsKeep = (s : EngineState) (call : Call) (env : Env) → mode_of (want_of call) ≡ Read → (step s call env).1 ≡ s
+
+-- neither call can meet it; or both can, with one answer, and leave states that agree on the want
+abbrev pub SameOutcome : Want → Option (Reply × EngineState) → Option (Reply × EngineState) → Type 0
+SameOutcome want None None = Unit {0}
+SameOutcome want None (Some b) = ⊥
+SameOutcome want (Some a) None = ⊥
+SameOutcome want (Some a) (Some b) = (a.0 ≡ b.0) × Agree want a.1 b.1
+
+-- What a call may meet, what it answers, and what it leaves of what it wants depend on what it wants alone.
+abbrev pub Outcomes : Type 0
+Outcomes = (want : Want) (s t : EngineState) (call : Call) (env : Env) → want_of call ≡ want → IsValid s → IsValid t → Agree want s t
+    → SameOutcome want (outcome s call env) (outcome t call env)

@@ -3,7 +3,7 @@ use Rattle.std.specs.Prelude.{ℕ, ◌≡◌, ◌≢◌, ◌*◌, ◌/◌, ◌%�
 use Rattle.std.specs.List.{AllByRecursion, list_any}
 use Rattle.st_units.specs.declared.rows.DevRow.{DevRow}
 use Rattle.st_model.specs.declared.call.Call.{Call}
-use Rattle.st_model.specs.declared.call.Call.TheVariants.{CreatePool}
+use Rattle.st_model.specs.declared.call.Call.TheVariants.{CreatePool, DestroyPool, StopPool, StartPool, RenamePool, AddDataDevs, InitCache, AddCacheDevs, CreateFilesystems, DestroyFilesystems, SnapshotFilesystem, RenameFilesystem, SetSizeLimit, SetFsLimit, SetOverprovisioning, FsWrite, FsRead, Check, PoolReport, EngineStateReport, PowerCycle}
 use Rattle.st_model.specs.declared.state.CacheState.{CacheState}
 use Rattle.st_model.specs.declared.state.FsState.{FsState}
 use Rattle.st_model.specs.declared.state.PoolMode.{PoolMode}
@@ -169,11 +169,35 @@ abbrev pub IsBefore : PoolState → Call → Type 0
 IsBefore p (CreatePool name devices) = IsBegun p name devices
 IsBefore p _ = IsHalted p
 
+-- the calls whose writes may fail, each on the pool of this name
+abbrev pub IsOn : Text → Call → Type 0
+IsOn n (CreatePool name devices) = name ≡ n
+IsOn n (DestroyPool name) = name ≡ n
+IsOn n (StopPool name) = ⊥
+IsOn n (StartPool id) = ⊥
+IsOn n (RenamePool name new) = name ≡ n
+IsOn n (AddDataDevs pool devices) = pool ≡ n
+IsOn n (InitCache pool devices) = pool ≡ n
+IsOn n (AddCacheDevs pool devices) = pool ≡ n
+IsOn n (CreateFilesystems pool filesystems) = pool ≡ n
+IsOn n (DestroyFilesystems pool names) = pool ≡ n
+IsOn n (SnapshotFilesystem pool origin name) = pool ≡ n
+IsOn n (RenameFilesystem pool name new) = pool ≡ n
+IsOn n (SetSizeLimit pool name limit) = pool ≡ n
+IsOn n (SetFsLimit pool limit) = pool ≡ n
+IsOn n (SetOverprovisioning pool value) = pool ≡ n
+IsOn n (FsWrite pool name sector payload) = pool ≡ n
+IsOn n (FsRead pool name sector sectors) = pool ≡ n
+IsOn n (Check pool) = pool ≡ n
+IsOn n (PoolReport pool) = ⊥
+IsOn n EngineStateReport = ⊥
+IsOn n PowerCycle = ⊥
+
 abbrev pub IsValidIn : PoolState → PoolMode → Type 0
 IsValidIn p Up = IsWhole p
-IsValidIn p (Down call) = IsBefore p call
+IsValidIn p (Down call) = IsBefore p call × IsOn p.name call
 IsValidIn p Stopped = IsHalted p
-IsValidIn p (Unsettled call) = IsBefore p call
+IsValidIn p (Unsettled call) = IsBefore p call × IsOn p.name call
 IsValidIn p (Incomplete path) = IsLacking p path
 
 -- a pool whose serial was given out before the next one; its devices are small in each mode

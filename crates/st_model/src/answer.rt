@@ -38,6 +38,8 @@ pub fn code_of(cause: &Cause) -> u8
         Cause::DeviceFault => 27,
         Cause::OutOfMemory => 28,
         Cause::Worn => 29,
+        Cause::NoOrigin => 31,
+        Cause::MergeConflict(_) => 32,
     }
 }
 

@@ -86,7 +86,18 @@ pub enum Call {
     PoolReport {
         pool: Name,
     },
+    /// The reports of several pools, of one place of the history.
+    PoolReports {
+        /// 1 to 8 distinct names, each counted once at its first place.
+        pools: NameList,
+    },
     EngineStateReport,
+    /// Marks a snapshot to replace its origin at the pool's next start, or takes the mark away.
+    SetMerge {
+        pool: Name,
+        name: Name,
+        value: bool,
+    },
     /// The rack loses its power and comes back. No line can ask for it.
     PowerCycle,
 }

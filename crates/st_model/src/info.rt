@@ -74,3 +74,11 @@ pub struct TableInfo {
 
 /// Infos that are shared with others who show them.
 pub type Infos<I> = ItemList<Shared<I>>;
+
+/// A known pool, as the closing of a run asks for it.
+#[derive(Drop)]
+pub struct PoolRow {
+    pub name: Name,
+    /// Started, and no write failed.
+    pub up: bool,
+}

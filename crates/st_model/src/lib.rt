@@ -21,9 +21,9 @@ pub use call::{Call, Payload, PoolId};
 pub use entry::{Entry, EntryList, Env, Origin};
 pub use gate::{Gate, NoGate};
 pub use info::{
-    CacheInfo, FsInfo, FsInfoList, Infos, PoolInfo, ShownMode, StoppedList, StoppedRow, TableInfo,
+    CacheInfo, FsInfo, FsInfoList, Infos, PoolInfo, PoolRow, ShownMode, StoppedList, StoppedRow, TableInfo,
 };
-pub use laws::{reads_change_nothing, step_is_local, step_keeps_validity};
+pub use laws::{outcomes_are_local, reads_change_nothing, step_is_local, step_keeps_validity};
 pub use meaning::{Board, Cell, Named};
 pub use number_map::NumberMap;
 pub use reply::{Given, Identity, NewFs, Reply};

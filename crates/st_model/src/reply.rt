@@ -40,6 +40,8 @@ pub enum Given {
     Checked(bool, u64, u64),
     /// PoolReport.
     Pool(Shared<PoolInfo>),
+    /// PoolReports: in the list's order, each pool once.
+    Pools(Infos<PoolInfo>),
     /// EngineStateReport: the table, and each started pool in byte order of the names.
     Engine(Shared<TableInfo>, Infos<PoolInfo>),
     /// The line is a call.

@@ -1,12 +1,12 @@
 -- A head that is put together front to back is the spelling of its value.
 use Rattle.std.proofs.Common.{◌≡◌, ℕ, List, ◌++◌, length, take, ap, ◌∙◌}
 use Rattle.st_fields.specs.Fields.{spelling}
-use Rattle.st_recfields.specs.Texts.{filled}
-use Rattle.st_recfields.proofs.RowsLemmas.{all_of_it}
+use Rattle.st_recrows.specs.Texts.{filled}
+use Rattle.st_recrows.proofs.RowsLemmas.{all_of_it}
 use Rattle.st_poolrec.specs.declared.head.PoolHead.{PoolHead}
 use Rattle.st_poolrec.specs.Head.{flags, head_text}
 
-pub head_spelled : (h : PoolHead) (w1 w2 w3 w4 w5 w6 w7 w8 name : List ℕ) (bits : ℕ) → name ≡ h.name → bits ≡ flags h.gone h.overprovisioning → length w8 ≡ 88
+pub head_spelled : (h : PoolHead) (w1 w2 w3 w4 w5 w6 w7 w8 name : List ℕ) (bits : ℕ) → name ≡ h.name → bits ≡ flags h.gone h.overprovisioning h.version2 → length w8 ≡ 88
     → take 8 w1 ≡ spelling 8 h.serial → take 12 w2 ≡ take 8 w1 ++ spelling 4 bits → take 16 w3 ≡ take 12 w2 ++ spelling 4 h.fs_limit → take 18 w4 ≡ take 16 w3 ++ spelling 2 (length name)
     → take 20 w5 ≡ take 18 w4 ++ spelling 2 h.devs → take 22 w6 ≡ take 20 w5 ++ spelling 2 h.segments → take 24 w7 ≡ take 22 w6 ++ spelling 2 0 → take 88 w8 ≡ take 24 w7 ++ filled name → w8 ≡ head_text h
 head_spelled h w1 w2 w3 w4 w5 w6 w7 w8 name bits is_name is_bits size p1 p2 p3 p4 p5 p6 p7 p8 =

@@ -4,12 +4,12 @@ use Rattle.std.proofs.lemmas.Bool.{true≢false}
 use Rattle.std.proofs.lemmas.List.{take_at, drop_at, take-append-drop, length-append, length-take-le, length-drop}
 use Rattle.st_units.specs.declared.rows.DevRow.{DevRow}
 use Rattle.st_units.specs.declared.rows.Segment.{Segment}
-use Rattle.st_recfields.specs.declared.fault.RecFault.{RecFault}
-use Rattle.st_recfields.specs.declared.fault.RecFault.TheVariants.{NotARecord, OutOfMemory}
-use Rattle.st_recfields.specs.Rows.{Reads, Spells, AllFit, rows_text}
-use Rattle.st_recfields.specs.PoolRows.{DevFits, dev_text, dev_fields, SegmentFits, segment_text, segment_fields}
-use Rattle.st_recfields.specs.PoolLaws.{dev_width, dev_reads_back, segment_width, segment_reads_back}
-use Rattle.st_recfields.proofs.RowsLemmas.{length-rows_text, same_row, same_rows, same_front}
+use Rattle.st_recrows.specs.declared.fault.RecFault.{RecFault}
+use Rattle.st_recrows.specs.declared.fault.RecFault.TheVariants.{NotARecord, OutOfMemory}
+use Rattle.st_recrows.specs.Rows.{Reads, Spells, AllFit, rows_text}
+use Rattle.st_recrows.specs.PoolRows.{DevFits, dev_text, dev_fields, SegmentFits, segment_text, segment_fields}
+use Rattle.st_recrows.specs.PoolLaws.{dev_width, dev_reads_back, segment_width, segment_reads_back}
+use Rattle.st_recrows.proofs.RowsLemmas.{length-rows_text, same_row, same_rows, same_front}
 use Rattle.st_poolrec.specs.declared.head.PoolHead.{PoolHead}
 use Rattle.st_poolrec.specs.declared.record.PoolRec.{PoolRec}
 use Rattle.st_poolrec.specs.Head.{HeadFits, head_text, head_fields}
@@ -57,7 +57,7 @@ bad_segments head rest back n OutOfMemory is_n is_back none = tt
 
 pub with_rows : (head : PoolHead) (rest front back : List ℕ) (n : ℕ) (devs : List DevRow) (segments : List Segment) → HeadFits head → n ≡ head.devs * 80 → length rest ≡ n + head.segments * 12
     → front ≡ take n rest → back ≡ drop n rest → Spells (AllFit DevFits) (rows_text dev_text) front devs → Spells (AllFit SegmentFits) (rows_text segment_text) back segments
-    → Follows head rest (record { serial = head.serial; gone = head.gone; overprovisioning = head.overprovisioning; fs_limit = head.fs_limit; name = head.name; devs = devs; segments = segments })
+    → Follows head rest (record { serial = head.serial; gone = head.gone; overprovisioning = head.overprovisioning; version2 = head.version2; fs_limit = head.fs_limit; name = head.name; devs = devs; segments = segments })
 with_rows head rest front back n devs segments fit is_n size is_front is_back of_devs of_segments =
     let front_len : length front ≡ n = ap length is_front ∙ length-take-le n rest (omega arith) in
     let back_len : length back ≡ head.segments * 12 = ap length is_back ∙ length-drop n rest ∙ omega arith in
@@ -65,9 +65,9 @@ with_rows head rest front back n devs segments fit is_n size is_front is_back of
     let segments_len : length back ≡ 12 * length segments = ap length of_segments.spelled ∙ length-rows_text SegmentFits segment_text 12 segment_width segments of_segments.fit in
     let dev_count : length devs ≡ head.devs = omega (arith, front_len, devs_len, is_n) in
     let segment_count : length segments ≡ head.segments = omega (arith, back_len, segments_len) in
-    let made : PoolRec = record { serial = head.serial; gone = head.gone; overprovisioning = head.overprovisioning; fs_limit = head.fs_limit; name = head.name; devs = devs; segments = segments } in
+    let made : PoolRec = record { serial = head.serial; gone = head.gone; overprovisioning = head.overprovisioning; version2 = head.version2; fs_limit = head.fs_limit; name = head.name; devs = devs; segments = segments } in
     let same : head_of made ≡ head =
-    λ i. record { serial = head.serial; gone = head.gone; overprovisioning = head.overprovisioning; fs_limit = head.fs_limit; name = head.name; devs = dev_count i; segments = segment_count i } in
+    λ i. record { serial = head.serial; gone = head.gone; overprovisioning = head.overprovisioning; version2 = head.version2; fs_limit = head.fs_limit; name = head.name; devs = dev_count i; segments = segment_count i } in
     let first : take n rest ≡ rows_text dev_text devs = sym is_front ∙ of_devs.spelled in
     let second : drop n rest ≡ rows_text segment_text segments = sym is_back ∙ of_segments.spelled in
     record {
@@ -118,7 +118,7 @@ same_record a b x y fa fb e =
     let head : head_of a ≡ head_of b = same_row HeadFits head_text head_fields head_reads_back (head_of a) (head_of b) fa.head fb.head heads.0 in
     let devs = same_rows DevFits dev_text dev_fields 80 dev_width dev_reads_back a.devs b.devs after_a after_b fa.devs fb.devs (ap (λ (h : PoolHead). h.devs) head) heads.1 in
     let segments = same_rows SegmentFits segment_text segment_fields 12 segment_width segment_reads_back a.segments b.segments x y fa.segments fb.segments (ap (λ (h : PoolHead). h.segments) head) devs.1 in
-    ((λ i. record { serial = (head i).serial; gone = (head i).gone; overprovisioning = (head i).overprovisioning; fs_limit = (head i).fs_limit; name = (head i).name; devs = devs.0 i; segments = segments.0 i }), segments.1)
+    ((λ i. record { serial = (head i).serial; gone = (head i).gone; overprovisioning = (head i).overprovisioning; version2 = (head i).version2; fs_limit = (head i).fs_limit; name = (head i).name; devs = devs.0 i; segments = segments.0 i }), segments.1)
 
 -- what was read keeps the conditions, or nothing is spelled so
 pub invalid : (bytes : List ℕ) (rec : PoolRec) → Spells RecFits record_text bytes rec → is_record rec ≡ false → (other : PoolRec) → Spells IsPoolRec record_text bytes other → ⊥

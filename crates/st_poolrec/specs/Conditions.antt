@@ -7,6 +7,10 @@ use Rattle.st_units.specs.declared.rows.Segment.{Segment}
 use Rattle.st_units.specs.declared.rows.Tier.{Tier}
 use Rattle.st_units.specs.declared.rows.Tier.TheVariants.{DataTier, CacheTier}
 
+-- the most filesystems that a pool may be limited to
+abbrev pub most_filesystems : Bool → ℕ
+most_filesystems version2 = if version2 then 256 else 128
+
 abbrev pub is_data : Tier → Bool
 is_data DataTier = true
 is_data CacheTier = false

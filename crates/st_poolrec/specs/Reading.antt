@@ -1,7 +1,7 @@
 -- Reading what follows the head.
 use Rattle.std.specs.Prelude.{◌≡◌, ℕ, List, ◌++◌}
-use Rattle.st_recfields.specs.Rows.{rows_text}
-use Rattle.st_recfields.specs.PoolRows.{dev_text, segment_text}
+use Rattle.st_recrows.specs.Rows.{rows_text}
+use Rattle.st_recrows.specs.PoolRows.{dev_text, segment_text}
 use Rattle.st_poolrec.specs.declared.head.PoolHead.{PoolHead}
 use Rattle.st_poolrec.specs.declared.record.PoolRec.{PoolRec}
 use Rattle.st_poolrec.specs.Record.{head_of, RecFits}

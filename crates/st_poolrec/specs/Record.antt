@@ -1,17 +1,18 @@
 -- The record of a pool: its one spelling, and which values have one.
 use Rattle.std.specs.Prelude.{◌≡◌, ℕ, Bool, true, ◌&&◌, nat_le, List, ◌++◌, length}
-use Rattle.st_recfields.specs.Rows.{AllFit, rows_text}
-use Rattle.st_recfields.specs.PoolRows.{DevFits, dev_text, SegmentFits, segment_text}
+use Rattle.st_recrows.specs.Rows.{AllFit, rows_text}
+use Rattle.st_recrows.specs.PoolRows.{DevFits, dev_text, SegmentFits, segment_text}
 use Rattle.st_poolrec.specs.declared.head.PoolHead.{PoolHead}
 use Rattle.st_poolrec.specs.declared.record.PoolRec.{PoolRec}
 use Rattle.st_poolrec.specs.Head.{HeadFits, head_text}
-use Rattle.st_poolrec.specs.Conditions.{rows_fit}
+use Rattle.st_poolrec.specs.Conditions.{most_filesystems, rows_fit}
 
 abbrev pub head_of : PoolRec → PoolHead
 head_of rec = record {
   serial = rec.serial;
   gone = rec.gone;
   overprovisioning = rec.overprovisioning;
+  version2 = rec.version2;
   fs_limit = rec.fs_limit;
   name = rec.name;
   devs = length rec.devs;
@@ -30,7 +31,7 @@ pub record RecFits (rec : PoolRec) : Type 0 where
 
 -- a limit of 0 to 128, 1 to 16 devices, at most 16 segments, and the conditions on the rows
 abbrev pub is_record : PoolRec → Bool
-is_record rec = nat_le rec.fs_limit 128 && (nat_le 1 (length rec.devs) && (nat_le (length rec.devs) 16 && (nat_le (length rec.segments) 16 && rows_fit rec.devs rec.segments)))
+is_record rec = nat_le rec.fs_limit (most_filesystems rec.version2) && (nat_le 1 (length rec.devs) && (nat_le (length rec.devs) 16 && (nat_le (length rec.segments) 16 && rows_fit rec.devs rec.segments)))
 
 -- the values of which there is a spelling
 pub record IsPoolRec (rec : PoolRec) : Type 0 where

@@ -1,13 +1,17 @@
 ghost use Rattle.std.specs.Prelude.{◌≡◌, ◌+◌, ◌<◌, ◌≤◌, ◌^◌, length};
 ghost use Rattle.std.specs.List.{list_all};
-ghost use Rattle.st_poolrec.specs.Conditions.{is_data, begins_with_data, has_fit_size, has_other_path, have_own_paths, usable_blocks, first_block, is_part, ends_device, take_in_order, rows_fit};
+ghost use Rattle.st_poolrec.specs.Conditions.{most_filesystems, is_data, begins_with_data, has_fit_size, has_other_path, have_own_paths, usable_blocks, first_block, is_part, ends_device, take_in_order, rows_fit};
 ghost use Rattle.st_poolrec.specs.Record.{is_record};
 
 use crate::record::PoolRec;
 use st_units::{DevRow, Segment, Tier};
 
 /// The most filesystems that a pool may be limited to.
-const MAX_FS_LIMIT: u32 = 128;
+fn most_filesystems(version2: bool) -> u32
+    ensures { result ≡ most_filesystems version2 }
+{
+    if version2 { 256 } else { 128 }
+}
 
 /// The most devices of a pool, and so the most segments.
 const MAX_DEVS: usize = 16;
@@ -29,7 +33,7 @@ pub fn is_record(rec: &PoolRec) -> bool
 {
     let devs = rec.devs.items();
     let segments = rec.segments.items();
-    rec.fs_limit <= MAX_FS_LIMIT
+    rec.fs_limit <= most_filesystems(rec.version2)
         && 1 <= devs.len()
         && devs.len() <= MAX_DEVS
         && segments.len() <= MAX_DEVS

@@ -1,5 +1,5 @@
 use st_fields::{put_u16, put_u32, put_u64, u16_at, u32_at, u64_at};
-use st_recfields::{RecFault, Row, name_of, put_text, text_at};
+use st_recrows::{RecFault, Row, name_of, put_text, text_at};
 use st_units::{Name, NoMemory};
 use std::alloc::Global;
 
@@ -12,6 +12,7 @@ pub struct PoolHead {
     pub serial: u64,
     pub gone: bool,
     pub overprovisioning: bool,
+    pub version2: bool,
     pub fs_limit: u32,
     pub name: Name,
     /// How many rows of devices follow.
@@ -54,6 +55,7 @@ impl Row for PoolHead {
                 serial: u64_at(bytes, 0),
                 gone: flags % 2 == 1,
                 overprovisioning: flags / 2 % 2 == 1,
+                version2: flags / 4 % 2 == 1,
                 fs_limit: u32_at(bytes, 12),
                 name,
                 devs: u16_at(bytes, 18),
@@ -72,11 +74,12 @@ impl PoolHead {
     ghost use Rattle.st_poolrec.specs.Head.{flags, head_text};
 
     fn flags(&self) -> u32
-        ensures { result ≡ flags self.now.gone self.now.overprovisioning }
+        ensures { result ≡ flags self.now.gone self.now.overprovisioning self.now.version2 }
     {
         let gone = if self.gone { 1 } else { 0 };
         let overprovisioning = if self.overprovisioning { 2 } else { 0 };
-        gone + overprovisioning
+        let version2 = if self.version2 { 4 } else { 0 };
+        gone + overprovisioning + version2
     }
 
     fn bytes(&self) -> [u8; 88]

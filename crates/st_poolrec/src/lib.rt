@@ -11,4 +11,4 @@ mod record;
 
 pub use conditions::is_record;
 pub use record::{PoolRec, decode, encode};
-pub use st_recfields::RecFault;
+pub use st_recrows::RecFault;

@@ -1,12 +1,12 @@
 ghost use Rattle.std.specs.Prelude.{◌≡◌, ℕ, true, IfOk};
-ghost use Rattle.st_recfields.specs.Rows.{Reads, Spells};
+ghost use Rattle.st_recrows.specs.Rows.{Reads, Spells};
 ghost use Rattle.st_poolrec.specs.Head.{HeadFits};
 ghost use Rattle.st_poolrec.specs.Record.{RecFits, IsPoolRec, is_record, record_text};
 ghost use Rattle.st_poolrec.specs.Reading.{Follows};
 
 use crate::conditions;
 use crate::head::{HEAD_WIDTH, PoolHead};
-use st_recfields::{DEV_WIDTH, RecFault, Row, SEGMENT_WIDTH, put_rows, read_row, read_rows};
+use st_recrows::{DEV_WIDTH, RecFault, Row, SEGMENT_WIDTH, put_rows, read_row, read_rows};
 use st_units::{Bytes, DevRows, Name, NoMemory, SegList};
 use std::alloc::Global;
 
@@ -18,6 +18,8 @@ pub struct PoolRec {
     /// The pool was destroyed.
     pub gone: bool,
     pub overprovisioning: bool,
+    /// The record is of version 2: a limit of up to 256.
+    pub version2: bool,
     /// How many filesystems the pool may have, 0 to 128.
     pub fs_limit: u32,
     pub name: Name,
@@ -37,6 +39,7 @@ pub fn encode(alloc: Global, rec: &PoolRec) -> Result<Bytes, NoMemory>
         serial: rec.serial,
         gone: rec.gone,
         overprovisioning: rec.overprovisioning,
+        version2: rec.version2,
         fs_limit: rec.fs_limit,
         name: rec.name.copy()?,
         devs: rec.devs.len() as u16,
@@ -101,6 +104,7 @@ fn read_rest(alloc: Global, head: PoolHead, rest: &[u8]) -> Result<PoolRec, RecF
             serial: head.serial,
             gone: head.gone,
             overprovisioning: head.overprovisioning,
+            version2: head.version2,
             fs_limit: head.fs_limit,
             name: head.name,
             devs,

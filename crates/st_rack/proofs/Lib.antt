@@ -7,3 +7,4 @@ pub mod Readers
 pub mod Straight
 pub mod Growth
 pub mod Look
+pub mod Apart

@@ -6,3 +6,4 @@ pub mod Parts
 pub mod Steps
 pub mod Readers
 pub mod Tagged
+pub mod Left

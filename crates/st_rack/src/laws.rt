@@ -4,9 +4,11 @@ ghost use Rattle.st_rack.specs.Device.{Image, State, FairlyLeaves, MayLeave, Set
 ghost use Rattle.st_rack.specs.Moments.{AllCut, Goes, LeftSince, OnDevice};
 ghost use Rattle.st_rack.specs.Steps.{Changed, LeavesOutside};
 ghost use Rattle.st_rack.specs.Tagged.{tagged};
+ghost use Rattle.st_rack.specs.Left.{FairlyOn};
+ghost use Rattle.st_rack.specs.Parts.{Splits};
 
 use crate::Rack;
-use st_units::DevPath;
+use st_units::{DevList, DevPath};
 
 /// Two runs that change nothing outside `n` bytes of a device make one.
 pub fn run_of_two<R: Rack>(old: &R, middle: &R, new: &R, dev: &DevPath)
@@ -42,4 +44,15 @@ pub fn left_after_cycle<R: Rack>(rack: &R)
     ensures { (tag : List ℕ) (old new : State) (c : Image) → AllCut (R.devs rack.now) old new → FairlyLeaves (tagged tag) new c → FairlyLeaves (tagged tag) old c }
 {
     let _ = rack;
+}
+
+/// What is fairly left of a rack before a split is fairly left of the part.
+pub fn left_of_part<R: Rack>(old: &R, rest: &R, part: &R, list: &DevList)
+    ensures { (tag : List ℕ) (c : Image) → Splits R.devs R.moment R.state_at list.now old.now rest.now part.now
+        → FairlyOn (R.devs old.now) (tagged tag) (R.state_at old.now (R.moment old.now)) c → FairlyOn (R.devs part.now) (tagged tag) (R.state_at part.now (R.moment part.now)) c }
+{
+    let _ = old;
+    let _ = rest;
+    let _ = part;
+    let _ = list;
 }

@@ -2,7 +2,7 @@
 use Rattle.std.proofs.Common.{◌≡◌, ◌⊎◌, inl, inr, ℕ, zero, suc, ◌+◌, ◌*◌, ◌%◌, ◌<◌, ◌≤◌, Bool, true, false, cond, ◌||◌, Option, Some, None, List, [], ◌∷◌, ◌++◌, take, length, get_or, refl, sym, ◌∙◌, ap, subst, arith, length-take}
 use Rattle.std.proofs.lemmas.Bool.Decides.{nat_tests}
 use Rattle.st_rack.specs.Story.{Content, put_in, within}
-use Rattle.st_slabs.proofs.Leave.{same_at}
+use Rattle.st_shelf.proofs.Leave.{same_at}
 use Rattle.st_rack.proofs.Readers.{put_in_outside}
 use Rattle.st_sparse.specs.Since.{reached, taken, content, is_torn}
 use Rattle.st_sparse.specs.declared.kinds.Pick.{Pick}

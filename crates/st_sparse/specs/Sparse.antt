@@ -2,7 +2,7 @@
 use Rattle.std.specs.Prelude.{ℕ, None}
 use Rattle.st_rack.specs.Story.{Content}
 use Rattle.st_rack.specs.Device.{Path, DevState}
-use Rattle.st_slabs.specs.Told.{story_of}
+use Rattle.st_shelf.specs.Told.{story_of}
 use Rattle.st_sparse.specs.Sectors.{byte_at}
 use Rattle.st_sparse.specs.Since.{content}
 use Rattle.st_sparse.specs.declared.sparse.Sparse.{Sparse}

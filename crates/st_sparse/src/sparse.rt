@@ -1,7 +1,7 @@
 ghost use Rattle.std.specs.Prelude.{◌≡◌, ◌+◌, ◌*◌, ◌/◌, ◌%◌, ◌^◌, ◌-◌, ◌<◌, ◌≤◌, ◌++◌, ◌∷◌, true, false, min, ℕ, List, [], length, IfOk, IfErr, OnOk, OnErr, is_err, Some, None, if◌then◌else◌};
 ghost use Rattle.st_sparse.specs.declared.kinds.Pick.TheVariants.{New};
 ghost use Rattle.st_rack.specs.Story.{unsettled};
-ghost use Rattle.st_slabs.specs.Told.{story_of};
+ghost use Rattle.st_shelf.specs.Told.{story_of};
 ghost use Rattle.st_sparse.specs.Sectors.{byte_at, is_kept};
 ghost use Rattle.st_sparse.specs.Since.{is_torn};
 
@@ -10,7 +10,7 @@ use crate::lay::{lay_all_in, lay_all_over};
 use crate::sectors::{Sectors, keep, read_kept};
 use crate::{Kind, Pick, Torn};
 use st_rack::DevFault;
-use st_slabs::{Device, Told, tell_settled, tell_write};
+use st_shelf::{Device, Told, tell_settled, tell_write};
 use st_units::{DevPath, NoMemory};
 use std::alloc::Global;
 use std::collections::BTreeMap;
@@ -62,7 +62,7 @@ impl Device for Sparse {
 impl Sparse {
     ghost use Rattle.st_rack.specs.Story.{Settled, Wrote, put_in};
     ghost use Rattle.st_rack.specs.Device.{cells, Touched, Written, Synced, Cut};
-    ghost use Rattle.st_slabs.specs.Shelf.{no_device};
+    ghost use Rattle.st_shelf.specs.Shelf.{no_device};
     ghost use Rattle.st_sparse.specs.Since.{content, reached, Adds};
     ghost use Rattle.st_sparse.specs.Arms.{fails, Met};
     ghost use Rattle.st_sparse.specs.declared.kinds.Kind.TheVariants.{Read, Write, Sync};

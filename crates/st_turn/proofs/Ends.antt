@@ -145,6 +145,15 @@ module _ {B E O : Type 0} (by : E → ℕ) (events : B → List E) (opens : B �
         known = λ i st h. let o = only (blank_view {E = E} {O = O}).holding i st h in subst (IsDealt 1) o.1 (record { made = λ x m. absurd (omega (arith, m)); counted = omega arith });
       }
 
+  -- before the first book there is none
+  pub closed_empty : (id : ℕ) (v : V) (ws : List ℕ) (xs : List (Option B)) (x : Option B) → v.place ≡ Out → v.holding.alone ≡ true → v.opening ≡ None → Final (Seen Kept id v) ws xs → get_elem? xs 0 ≡ some x → x ≡ None
+  closed_empty id v ws xs x out is unset f at =
+      let r = closing id v ws xs out is f in
+      let same : r.0 ≡ x = some-injective r.0 x (sym r.1 ∙ at) in
+      let found : Found by events fits v x = subst (Found by events fits v) same r.2 in
+      let no : (z : Option B) → FitsIn fits None z → z ≡ None = elim [ None ↦ (λ fit. refl) | Some b ↦ (λ fit. absurd fit) ] in
+      no x (subst (λ o. FitsIn fits o x) unset found.fitting)
+
   -- so the book is there
   pub closed_book : (id : ℕ) (v : V) (ws : List ℕ) (xs : List (Option B)) (x : Option B) → v.place ≡ Out → v.holding.alone ≡ true → IsOpen v.opening → Final (Seen Kept id v) ws xs → get_elem? xs 0 ≡ some x
       → (b : B) × (x ≡ Some b) × Found by events fits v (Some b) × ((y : ℕ) → (0 < times y (held v.holding)) ⊎ (told_by by y (events b) ≡ []))

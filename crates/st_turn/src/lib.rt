@@ -19,4 +19,4 @@ mod waiting;
 pub use logged::Logged;
 pub use seat::{NoMemory, SeatOf, TurnSeat};
 pub use standing::Claim;
-pub use turn::Turn;
+pub use turn::{Turn, Vacant};

@@ -5,7 +5,7 @@ ghost use Rattle.st_turn.specs.declared.standing.Place.TheVariants.{Out, Waiting
 ghost use Rattle.st_turn.specs.Lists.{IsAmong, told_by, longer};
 ghost use Rattle.st_turn.specs.Parts.{held, claimed};
 ghost use Rattle.st_turn.specs.Views.{HasAll};
-ghost use Rattle.st_turn.specs.Ruling.{log_of};
+ghost use Rattle.st_turn.specs.Ruling.{log_of, blank_view};
 ghost use Rattle.st_turn.specs.Kinds.{Found, after_turn, MayLeave, with_drawn, with_counted, alone_of, both_of};
 ghost use Rattle.st_turn.specs.Seated.{IsOpen};
 
@@ -193,5 +193,20 @@ pub fn open_up<B: Logged>(table: OwnTable<B>, seat: TableSeat<B>) -> B
     match home {
         Some(book) => book,
         None => unreachable!(),
+    }
+}
+
+/// Ends the table of the only seat, to which no book came.
+pub fn end_empty<B: Logged>(table: OwnTable<B>, seat: TableSeat<B>)
+    requires slots { table.shared.table_id.slots ≡ 1 }
+    requires here { seat.table_id ≡ table.shared.table_id }
+    requires blank { seat.me ≡ (blank_view, []) }
+{
+    let mut closed = table.close_with(seat);
+    let home = closed.take(0);
+    closed.free();
+    match home {
+        None => {}
+        Some(_book) => unreachable!(),
     }
 }

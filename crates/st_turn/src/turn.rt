@@ -7,7 +7,7 @@ use crate::kinds::TurnRule;
 use crate::logged::Logged;
 use crate::seat::{NoMemory, SeatOf, TurnSeat};
 use crate::standing::Standing;
-use crate::steps::{TableSeat, TurnTable, leave_last, leave_turn, take_alone};
+use crate::steps::{OwnTable, TableSeat, TurnTable, end_empty, leave_last, leave_turn, take_alone};
 use crate::waiting::{draw_ticket, wait_turn, wake};
 use atomic_table::Table;
 use std::alloc::Global;
@@ -45,6 +45,59 @@ fn put_first<B: Logged>(table: &TurnTable<B>, seat: &mut TableSeat<B>, book: B)
     match take_alone(table, seat) {
         None => leave_last(table, seat, book),
         Some(_other) => unreachable!(),
+    }
+}
+
+/// The memory of a turn that has no book yet.
+pub struct Vacant<B: Logged> {
+    table: OwnTable<B>,
+    seat: TableSeat<B>,
+}
+
+impl<B: Logged> Model for Vacant<B> {
+    ghost use Rattle.std.specs.Prelude.{◌≡◌, []};
+    ghost use Rattle.atomic_table.specs.Seated.{TableId};
+    ghost use Rattle.st_turn.specs.Ruling.{blank_view};
+
+    ghost Value = { TableId };
+
+    ghost view = { λ v. v.table.shared.table_id };
+
+    ghost invariant = { λ v. (v.table.shared.table_id.words ≡ 3) × (v.table.shared.table_id.slots ≡ 1) × (v.seat.table_id ≡ v.table.shared.table_id) × (v.seat.me ≡ (blank_view, [])) };
+}
+
+impl<B: Logged> Vacant<B> {
+    /// Takes the memory of a turn.
+    pub fn make(alloc: Global) -> Result<Vacant<B>, NoMemory> {
+        match Table::vacant(alloc, &[0, 0, 1], 1, &()) {
+            Err(_) => Err(NoMemory),
+            Ok((table, seat)) => Ok(Vacant { table, seat }),
+        }
+    }
+
+    /// The turn that lends this book, whose log is empty, and its first seat. It takes no memory, and isn't refused.
+    pub fn fill(self, book: B) -> (Turn<B>, TurnSeat<B>)
+        requires empty { B.events book ≡ [] }
+        requires fits { B.fits book (B.opens book) }
+        ensures first { result.1 ≡ first_seat result.0 (B.opens book) }
+    {
+        let Vacant { table, mut seat } = self;
+        put_first(&table.shared, &mut seat, book);
+        (
+            Turn { table },
+            SeatOf {
+                seat,
+                number: 0,
+                claimed: 1,
+                last: false,
+            },
+        )
+    }
+
+    /// Lets the memory go.
+    pub fn end(self) {
+        let Vacant { table, seat } = self;
+        end_empty(table, seat);
     }
 }
 

@@ -22,6 +22,7 @@ pub enum Member {
     Hex,
     Fill,
     Sectors,
+    Pools,
 }
 
 /// Why a call was refused. Numbers of filesystems, mappings and blocks are counts.
@@ -70,4 +71,8 @@ pub enum Cause {
     OutOfMemory,
     /// The pool has made as many commits as it can.
     Worn,
+    /// A filesystem without an origin has nothing to replace.
+    NoOrigin,
+    /// The first filesystem whose mark stands in the way.
+    MergeConflict(Name),
 }

@@ -62,6 +62,8 @@ pub struct FsRow {
     pub limit: Option<u64>,
     /// The serial of the filesystem that it is a snapshot of, as long as that one exists.
     pub origin: Option<u64>,
+    /// It is to replace its origin at the pool's next start.
+    pub merge: bool,
 }
 
 impl FsRow {
@@ -75,6 +77,7 @@ impl FsRow {
             size: self.size,
             limit: self.limit,
             origin: self.origin,
+            merge: self.merge,
         })
     }
 }

@@ -50,7 +50,7 @@ fn tell(rt: &HostRuntime, status: Status) -> io::Result<()> {
 
 fn main(rt: HostRuntime) -> io::Result<ExitCode> {
     let words = words(&rt)?;
-    let Ok(rack) = st_sims::rack(rt.alloc(), DEVICES) else {
+    let Ok(rack) = sim_devices::rack(rt.alloc(), DEVICES) else {
         tell(&rt, Status::OutOfMemory)?;
         return Ok(ExitCode::from(OUT_OF_MEMORY));
     };

@@ -1,5 +1,5 @@
 use Rattle.std.proofs.Common.{List, subst}
-use Rattle.st_slabs.specs.Shelf.{IsFirst}
+use Rattle.st_shelf.specs.Shelf.{IsFirst}
 use Rattle.st_sparse.specs.Sparse.{sparse_path}
 use Rattle.st_sparse.specs.declared.sparse.Sparse.{Sparse}
 use Rattle.st_memrack.specs.Ends.{SyncEnds}

@@ -1,6 +1,6 @@
 use Rattle.std.proofs.Common.{◌+◌, ◌*◌, ◌≤◌, List, length, subst, sym}
-use Rattle.st_slabs.specs.Shelf.{IsFirst}
-use Rattle.st_slabs.proofs.Look.{fits}
+use Rattle.st_shelf.specs.Shelf.{IsFirst}
+use Rattle.st_shelf.proofs.Look.{fits}
 use Rattle.st_sparse.specs.Sparse.{sparse_path, sparse_size}
 use Rattle.st_sparse.specs.declared.sparse.Sparse.{Sparse}
 use Rattle.st_memrack.specs.Ends.{WriteEnds}

@@ -1,6 +1,6 @@
 use Rattle.std.proofs.Common.{◌≡◌, ◌-◌, ◌<◌, suc, ℕ, length, List, get_or, subst, sym, ◌∙◌, ap, arith}
 use Rattle.st_rack.specs.Device.{Path}
-use Rattle.st_slabs.proofs.Leave.{same_at}
+use Rattle.st_shelf.proofs.Leave.{same_at}
 use Rattle.st_sparse.specs.Sparse.{sparse_path, sparse_size, sparse_state, sparse_reads}
 use Rattle.st_memrack.specs.Blank.{Filled}
 use Rattle.st_sparse.specs.declared.sparse.Sparse.{Sparse}

@@ -1,6 +1,6 @@
 use Rattle.std.proofs.Common.{◌≡◌, ◌-◌, ◌<◌, suc, ℕ, length, List, get_or, subst, sym, ◌∙◌, ap, arith}
 use Rattle.st_rack.specs.Device.{Path}
-use Rattle.st_slabs.proofs.Leave.{same_at}
+use Rattle.st_shelf.proofs.Leave.{same_at}
 use Rattle.st_memrack.specs.Slab.{slab_path, slab_size, slab_state, slab_reads}
 use Rattle.st_memrack.specs.Blank.{Filled}
 use Rattle.st_memrack.specs.declared.slab.Slab.{Slab}

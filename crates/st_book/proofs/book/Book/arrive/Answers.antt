@@ -29,6 +29,6 @@ pub returns-clause-stands : goal.returns-clause-stands
 returns-clause-stands g c = λ s base h.
     let h' = rw (← c.self.view_is) at h in
     elim c.match-arrive.branch [
-      | in-Ok-arrive w ↦ subst (Stands s base) (sym w.self-is) (stands_arrived s base _ _ c.args.seat c.args.want h' (rw c.in-Ok.ensures at w.in-Ok-arrive.ensures.ok) (rw (w.in-Ok-arrive.ensures.ticket, c.make_room.ensures.log) at w.put.ensures.items) refl refl refl refl refl c.make_room.ensures.lent)
+      | in-Ok-arrive w ↦ subst (Stands s base) (sym w.self-is) (stands_arrived s base _ _ c.args.seat c.args.want h' (rw c.in-Ok.ensures at w.in-Ok-arrive.ensures.ok) (rw (w.in-Ok-arrive.ensures.ticket, c.make_room.ensures.log) at w.put.ensures.items) refl refl refl refl refl c.make_room.ensures.lent refl)
       | in-Err-arrive w ↦ subst (Stands s base) (sym w.self-is) (rw (w.in-Err-arrive.ensures.err, c.make_room.ensures.log, c.make_room.ensures.lent) h')
     ]

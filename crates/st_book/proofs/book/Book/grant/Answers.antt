@@ -60,7 +60,7 @@ returns-clause-stands g c = λ s base h.
     let tables = left_and_given g.T.Board.fault_count own.0.want c.self.inside.table in
     let tables' : or_zero (option_map g.T.Board.fault_count c.take_table-table.new.table) + or_zero (option_map g.T.Board.fault_count c.take_table-table.result) ≡ or_zero (option_map g.T.Board.fault_count c.self.inside.table) = rw (left, given) tables in
     stands_granted s base _ _ c.args.ticket own.0 _ out h' own.1 own.2 c.in_ok-can_grant.ensures.ok c.grant.ensures (rw seat at c.put.ensures.items) (rw want at c.take_cells-cells.ensures.home) refl
-    (ap (option_map viewed) left ∙ left_viewed viewed own.0.want c.self.inside.table) refl c.in-Ok.ensures.items refl (rw c.items-2.ensures at c.faults_of-faults.ensures) (omega (arith, tables', c.take_cells-cells.ensures.faults))
+    (ap (option_map viewed) left ∙ left_viewed viewed own.0.want c.self.inside.table) refl c.in-Ok.ensures.items refl (rw c.items-2.ensures at c.faults_of-faults.ensures) (omega (arith, tables', c.take_cells-cells.ensures.faults)) c.note.ensures
 
 pub returns-clause-part : goal.returns-clause-part
 returns-clause-part g c = λ s base h.

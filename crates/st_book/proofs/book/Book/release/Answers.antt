@@ -22,7 +22,7 @@ returns-in-Some-clause-stands g c = λ s base h back spares spare counts.
     let table : TableView = record { state = g.T.Board.stands c.in-Some.table; slack = g.T.Board.slack c.in-Some.table } in
     let apart = back_apart (replay s was.log) base own.0.want c.args.entries.items cells (Some table) takes back' in
     let number = g.T.Board.fault_count c.in-Some.table + sum_by g.C.Cell.fault_count c.args.part.cells.items in
-    stands_back_all s base was _ c.args.ticket own.0 c.args.entries cells table number h own.1 own.2 c.release_all.ensures.lock (rw own.1 at c.release_all.ensures.log) c.release_all.ensures.lent back' (λ k. rw is at (counts k))
+    stands_back_all s base was _ c.args.ticket own.0 c.args.entries cells table number h own.1 own.2 c.release_all.ensures.lock (rw own.1 at c.release_all.ensures.log) c.release_all.ensures.lent c.release_all.ensures.notes back' (λ k. rw is at (counts k))
     c.release_all.ensures.cells takes c.release_all.ensures.table (c.release_all.ensures.table_info (rw is at spare)) (c.release_all.ensures.infos spares apart.0) (omega (arith, c.release_all.ensures.faults))
 
 pub returns-in-None-clause-stands : goal.returns-in-None-clause-stands
@@ -35,5 +35,5 @@ returns-in-None-clause-stands g c = λ s base h back spares spare counts.
     let cells = map g.C.Cell.state c.args.part.cells.items in
     let number = sum_by g.C.Cell.fault_count c.args.part.cells.items in
     let counted : length was.log < 2 ^ 62 → number ≡ lent_at c.args.ticket was.lent + failures_of c.args.entries.items = λ k. let m = rw is at (counts k) in omega (arith, m) in
-    stands_back s base was _ c.args.ticket own.0 c.args.entries cells None number h own.1 own.2 c.release_one.ensures.lock (rw own.1 at c.release_one.ensures.log) c.release_one.ensures.lent back' counted
+    stands_back s base was _ c.args.ticket own.0 c.args.entries cells None number h own.1 own.2 c.release_one.ensures.lock (rw own.1 at c.release_one.ensures.log) c.release_one.ensures.lent c.release_one.ensures.notes back' counted
     c.release_one.ensures.cells leaves c.release_one.ensures.table c.release_one.ensures.table_info (c.release_one.ensures.infos spares) c.release_one.ensures.faults

@@ -1,7 +1,7 @@
 use Rattle.std.proofs.Common.{◌≡◌, ◌<◌, ℕ, List, length, true, get_or, Option, ◌∙◌, sym, ap, subst}
 use Rattle.std.specs.Option.{MatchOption}
 use Rattle.std.proofs.lemmas.Bool.{false≢true}
-use Rattle.st_rules.specs.Cache.{has}
+use Rattle.st_limits.specs.Cache.{has}
 use Rattle.st_links.specs.Arena.{row, after}
 use Rattle.st_links.proofs.Calls.{read_at}
 use Rattle.st_cachemap.specs.Cached.{Cached, place_in}

@@ -1,5 +1,5 @@
 use Rattle.std.proofs.Common.{◌≡◌, ℕ, true, length, slice_index, MatchOption}
-use Rattle.st_rules.specs.Cache.{has}
+use Rattle.st_limits.specs.Cache.{has}
 use Rattle.st_links.specs.Arena.{row}
 use Rattle.st_cachemap.proofs.Chain.{left_of}
 use Rattle.st_cachemap.proofs.cache_map.CacheMap.peek.Given as goal

@@ -1,5 +1,5 @@
 use Rattle.std.proofs.Common.{◌≡◌, ◌+◌, ◌-◌, ◌<◌, ℕ, true, ap, sym, subst, ◌∙◌, arith}
-use Rattle.st_rules.specs.Cache.{has}
+use Rattle.st_limits.specs.Cache.{has}
 use Rattle.st_links.specs.Arena.{Arena, is_linked}
 use Rattle.st_cachemap.specs.Sound.{used}
 use Rattle.st_cachemap.proofs.Keeps.{used_linked, free_after, length-without}

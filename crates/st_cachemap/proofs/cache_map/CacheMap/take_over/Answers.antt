@@ -1,6 +1,6 @@
 use Rattle.std.proofs.Common.{◌≡◌, ◌<◌, ◌∙◌, ◌++◌, ℕ, List, sym, ap, subst, arith}
 use Rattle.std.specs.Map.{keys_of, values_of}
-use Rattle.st_rules.specs.Cache.{has, AreDistinct}
+use Rattle.st_limits.specs.Cache.{has, AreDistinct}
 use Rattle.st_cachemap.specs.Cached.{Cached}
 use Rattle.st_cachemap.proofs.Touches.{apart_keys, apart_places, place_among}
 use Rattle.st_cachemap.proofs.cache_map.CacheMap.take_over.Goals as goal

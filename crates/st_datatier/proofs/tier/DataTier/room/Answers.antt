@@ -1,5 +1,5 @@
 use Rattle.std.proofs.Common.{arith, ap}
-use Rattle.st_rules.specs.Sums.{room}
+use Rattle.st_limits.specs.Sums.{room}
 use Rattle.st_datatier.specs.Tier.{Tier}
 use Rattle.st_datatier.proofs.Devices.{room_fits}
 use Rattle.st_datatier.proofs.Growing.{tier_room}

@@ -1,8 +1,8 @@
 use Rattle.std.proofs.Common.{refl, sym, subst, ap}
 use Rattle.st_rack.specs.Device.{State}
 use Rattle.st_rack.specs.Calls.{Devices, Rises}
-use Rattle.st_slabs.specs.Shelf.{no_device}
-use Rattle.st_slabs.specs.Past.{was}
+use Rattle.st_shelf.specs.Shelf.{no_device}
+use Rattle.st_shelf.specs.Past.{was}
 use Rattle.st_sparse.specs.Sparse.{sparse_path, sparse_size, sparse_state, sparse_reads}
 use Rattle.st_sparse.specs.Arms.{new_arm}
 use Rattle.st_memrack.specs.Ends.{ArmEnds}

@@ -1,7 +1,7 @@
 use Rattle.std.proofs.Common.{IsNone, List, subst, sym, ◌∙◌, ap}
 use Rattle.st_rack.specs.Calls.{sectors_of}
-use Rattle.st_slabs.specs.Shelf.{IsFirst, rows_of}
-use Rattle.st_slabs.proofs.Look.{look_first, look_none, not_in}
+use Rattle.st_shelf.specs.Shelf.{IsFirst, rows_of}
+use Rattle.st_shelf.proofs.Look.{look_first, look_none, not_in}
 use Rattle.st_sparse.specs.Sparse.{sparse_path, sparse_size, sparse_reads}
 use Rattle.st_sparse.specs.declared.sparse.Sparse.{Sparse}
 use Rattle.st_memrack.proofs.memrack.MemRack.reads_of.Goals as goal

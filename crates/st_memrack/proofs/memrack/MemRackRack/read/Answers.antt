@@ -1,8 +1,8 @@
 use Rattle.std.proofs.Common.{◌≡◌, ℕ, ◌*◌, length, OnOk, subst, sym, ◌∙◌, ap}
 use Rattle.st_rack.specs.Device.{DevState, State, cells}
 use Rattle.st_rack.specs.Calls.{Devices, Rises, Rose}
-use Rattle.st_slabs.specs.Shelf.{look, no_device}
-use Rattle.st_slabs.specs.Past.{was}
+use Rattle.st_shelf.specs.Shelf.{look, no_device}
+use Rattle.st_shelf.specs.Past.{was}
 use Rattle.st_sparse.specs.Sparse.{sparse_path, sparse_size, sparse_state, sparse_reads}
 use Rattle.st_memrack.specs.Ends.{ReadEnds}
 use Rattle.st_memrack.proofs.One.{rows_one, look_before, look_after, look_same, look_other}

@@ -1,6 +1,6 @@
 use Rattle.std.proofs.Common.{List, Some, subst, sym, ◌∙◌, ap}
-use Rattle.st_slabs.specs.Shelf.{IsFirst}
-use Rattle.st_slabs.proofs.Look.{sectors_first}
+use Rattle.st_shelf.specs.Shelf.{IsFirst}
+use Rattle.st_shelf.proofs.Look.{sectors_first}
 use Rattle.st_sparse.specs.Sparse.{sparse_path, sparse_size}
 use Rattle.st_sparse.specs.declared.sparse.Sparse.{Sparse}
 use Rattle.st_memrack.proofs.memrack.MemRackRack.sectors.Goals as goal

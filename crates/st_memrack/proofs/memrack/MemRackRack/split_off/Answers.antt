@@ -1,9 +1,9 @@
 use Rattle.std.proofs.Common.{◌≡◌, ◌+◌, not, Bool, cond, List, length, subst, sym, ◌∙◌, refl, ap, arith}
 use Rattle.st_rack.specs.Device.{Path}
 use Rattle.st_rack.specs.Calls.{Rises, names}
-use Rattle.st_slabs.specs.Shelf.{look, rows_of}
-use Rattle.st_slabs.proofs.Change.{splits}
-use Rattle.st_slabs.proofs.Leave.{look-filter, rises-filter}
+use Rattle.st_shelf.specs.Shelf.{look, rows_of}
+use Rattle.st_shelf.proofs.Change.{splits}
+use Rattle.st_shelf.proofs.Leave.{look-filter, rises-filter}
 use Rattle.st_sparse.specs.Sparse.{sparse_path, sparse_size, sparse_state, sparse_reads}
 use Rattle.st_sparse.specs.declared.sparse.Sparse.{Sparse}
 use Rattle.st_memrack.proofs.Mem.{past_of, list_of}

@@ -2,7 +2,7 @@ use Rattle.std.proofs.Common.{◌≡◌, OnOk, OnErr, subst, sym}
 use Rattle.st_rack.specs.Device.{Settling, Synced}
 use Rattle.st_rack.specs.Calls.{Devices, Rises}
 use Rattle.st_rack.specs.Moments.{OnDevice}
-use Rattle.st_slabs.proofs.Change.{goes}
+use Rattle.st_shelf.proofs.Change.{goes}
 use Rattle.st_sparse.specs.Sparse.{sparse_path, sparse_size, sparse_state, sparse_reads}
 use Rattle.st_memrack.specs.Ends.{SyncEnds}
 use Rattle.st_memrack.proofs.One.{rows_one, look_same, on_device}

@@ -2,8 +2,8 @@ use Rattle.std.proofs.Common.{◌*◌, Result, OnOk, subst, sym, ◌∙◌, ap}
 use Rattle.st_rack.specs.Device.{DevState, State, Touched, Written}
 use Rattle.st_rack.specs.Calls.{Devices, Rises}
 use Rattle.st_rack.specs.Moments.{OnDevice}
-use Rattle.st_slabs.specs.Shelf.{no_device}
-use Rattle.st_slabs.proofs.Change.{goes}
+use Rattle.st_shelf.specs.Shelf.{no_device}
+use Rattle.st_shelf.proofs.Change.{goes}
 use Rattle.st_sparse.specs.Sparse.{sparse_path, sparse_size, sparse_state, sparse_reads}
 use Rattle.st_sparse.specs.declared.sparse.WriteFault.{WriteFault}
 use Rattle.st_memrack.specs.Ends.{WriteEnds}

@@ -1,9 +1,9 @@
 use Rattle.std.proofs.Common.{Bool, cond, List, subst, sym, ◌∙◌, ap}
 use Rattle.st_rack.specs.Calls.{Rises}
-use Rattle.st_slabs.specs.Shelf.{look, rows_of}
-use Rattle.st_slabs.proofs.Look.{not_in, has_in}
-use Rattle.st_slabs.proofs.Change.{joins}
-use Rattle.st_slabs.proofs.Come.{look-join_in, rises-join}
+use Rattle.st_shelf.specs.Shelf.{look, rows_of}
+use Rattle.st_shelf.proofs.Look.{not_in, has_in}
+use Rattle.st_shelf.proofs.Change.{joins}
+use Rattle.st_shelf.proofs.Come.{look-join_in, rises-join}
 use Rattle.st_memrack.specs.Slab.{slab_path, slab_size, slab_state, slab_reads}
 use Rattle.st_memrack.specs.declared.slab.Slab.{Slab}
 use Rattle.st_memrack.proofs.Whole.{past_of, list_of, apart_in}

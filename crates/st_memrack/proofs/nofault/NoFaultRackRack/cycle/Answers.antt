@@ -1,8 +1,8 @@
 use Rattle.std.proofs.Common.{subst, sym}
 use Rattle.st_rack.specs.Calls.{Devices, Rises}
 use Rattle.st_rack.specs.Moments.{AllCut}
-use Rattle.st_slabs.specs.Shelf.{rows_of}
-use Rattle.st_slabs.proofs.Change.{goes}
+use Rattle.st_shelf.specs.Shelf.{rows_of}
+use Rattle.st_shelf.proofs.Change.{goes}
 use Rattle.st_memrack.specs.Slab.{slab_path, slab_size, slab_state, slab_reads}
 use Rattle.st_memrack.specs.Blank.{IsSettled}
 use Rattle.st_memrack.proofs.Zip.{rows_zip, look_zip, cut_zip}

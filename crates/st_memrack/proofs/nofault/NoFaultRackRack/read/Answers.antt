@@ -1,9 +1,9 @@
 use Rattle.std.proofs.Common.{ℕ, ◌+◌, ◌-◌, ◌*◌, ◌^◌, ◌≤◌, min, List, length, get_or, slice_set, subst, sym, ◌∙◌, ap}
 use Rattle.st_rack.specs.Device.{DevState, State, cells}
 use Rattle.st_rack.specs.Calls.{Devices, Rises, Rose}
-use Rattle.st_slabs.specs.Shelf.{look, no_device, IsFirst}
-use Rattle.st_slabs.specs.Past.{was}
-use Rattle.st_slabs.proofs.Look.{fits, first_path, rows_set, look_set_kept, look_first, look_set_same, look_set_other}
+use Rattle.st_shelf.specs.Shelf.{look, no_device, IsFirst}
+use Rattle.st_shelf.specs.Past.{was}
+use Rattle.st_shelf.proofs.Look.{fits, first_path, rows_set, look_set_kept, look_first, look_set_same, look_set_other}
 use Rattle.st_memrack.specs.Slab.{slab_path, slab_size, slab_state, slab_reads}
 use Rattle.st_memrack.specs.declared.slab.Slab.{Slab}
 use Rattle.st_memrack.proofs.Whole.{first_state, rose_by}

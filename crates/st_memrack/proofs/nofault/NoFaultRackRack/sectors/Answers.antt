@@ -1,6 +1,6 @@
 use Rattle.std.proofs.Common.{◌≡◌, ℕ, ◌/◌, Some, List, length, subst, sym, ◌∙◌, ap}
-use Rattle.st_slabs.specs.Shelf.{IsFirst}
-use Rattle.st_slabs.proofs.Look.{sectors_first}
+use Rattle.st_shelf.specs.Shelf.{IsFirst}
+use Rattle.st_shelf.proofs.Look.{sectors_first}
 use Rattle.st_memrack.specs.Slab.{slab_path, slab_size}
 use Rattle.st_memrack.specs.declared.slab.Slab.{Slab}
 use Rattle.st_memrack.proofs.nofault.NoFaultRackRack.sectors.Goals as goal

@@ -2,9 +2,9 @@ use Rattle.std.proofs.Common.{◌+◌, ◌*◌, ◌≤◌, List, length, slice_s
 use Rattle.st_rack.specs.Device.{DevState, Written, Touched}
 use Rattle.st_rack.specs.Calls.{Devices, Rises}
 use Rattle.st_rack.specs.Moments.{OnDevice}
-use Rattle.st_slabs.specs.Shelf.{IsFirst}
-use Rattle.st_slabs.proofs.Look.{fits, first_path, rows_set, look_set_kept}
-use Rattle.st_slabs.proofs.Change.{one_device, goes}
+use Rattle.st_shelf.specs.Shelf.{IsFirst}
+use Rattle.st_shelf.proofs.Look.{fits, first_path, rows_set, look_set_kept}
+use Rattle.st_shelf.proofs.Change.{one_device, goes}
 use Rattle.st_memrack.specs.Slab.{slab_path, slab_size, slab_state, slab_reads}
 use Rattle.st_memrack.specs.declared.slab.Slab.{Slab}
 use Rattle.st_memrack.proofs.Whole.{past_of, list_of, both_now, set_state}

@@ -1,6 +1,6 @@
 use Rattle.std.proofs.Common.{◌≡◌, ◌*◌, ◌/◌, true, None, ℕ, length, ap, refl, ◌∙◌, arith}
 use Rattle.st_rack.specs.Story.{Story, Wrote, within, unsettled}
-use Rattle.st_slabs.specs.Told.{story_of}
+use Rattle.st_shelf.specs.Told.{story_of}
 use Rattle.st_sparse.specs.Sectors.{byte_at, is_kept}
 use Rattle.st_sparse.specs.Since.{content}
 use Rattle.st_sparse.specs.Sparse.{sparse_state, settled}

@@ -1,6 +1,0 @@
-use Rattle.std.specs.List.{IsDistinct}
-use Rattle.st_layers.proofs.slots.one_device.Goals as goal
-
-pub blank-requires : goal.blank-requires
-unfolding IsDistinct
-blank-requires c = (tt, tt)

@@ -1,0 +1,12 @@
+//! The lock on one pool or on all: a book that many seats share by turns.
+#![tactic(auto)]
+
+mod desk;
+mod guard;
+mod lock;
+mod seat;
+
+pub use desk::{Desk, Opening};
+pub use guard::{Guard, Ticket};
+pub use lock::AllOrSome;
+pub use seat::Seat;

@@ -1,6 +1,0 @@
-use Rattle.std.proofs.Common.{◌≡◌, ◌++◌, take}
-use Rattle.st_recfields.specs.Rows.{rows_text}
-use Rattle.st_recfields.proofs.row.put_rows.Given as goal
-
-abbrev pub invariant-loop-row : goal.invariant-loop-row
-invariant-loop-row g l = l.out.items ≡ l.fn.out.items ++ rows_text g.R.Row.text (take l.row-index l.rows)
