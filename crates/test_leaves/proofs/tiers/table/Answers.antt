@@ -2,7 +2,7 @@ use Rattle.std.proofs.Common.{sym, subst, ap, ◌∙◌}
 use Rattle.st_seg.specs.Blocks.{NoneTwice}
 use Rattle.st_seg.specs.Stock.{added}
 use Rattle.st_seg.proofs.Calls.{added-taking, next_apart}
-use Rattle.test_layers.proofs.tiers.table.Goals as goal
+use Rattle.test_leaves.proofs.tiers.table.Goals as goal
 
 pub extend-requires-clause-apart : goal.extend-requires-clause-apart
 extend-requires-clause-apart c =

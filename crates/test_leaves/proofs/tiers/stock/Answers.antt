@@ -2,7 +2,7 @@ use Rattle.std.proofs.Common.{◌≡◌, List, [], ◌++◌, sym, subst, ap}
 use Rattle.st_seg.specs.Blocks.{Block, NoneTwice, blocks_from}
 use Rattle.st_seg.specs.Stock.{added}
 use Rattle.st_datatier.proofs.Devices.{device_apart}
-use Rattle.test_layers.proofs.tiers.stock.Goals as goal
+use Rattle.test_leaves.proofs.tiers.stock.Goals as goal
 
 pub add-requires-clause-new : goal.add-requires-clause-new
 add-requires-clause-new c =

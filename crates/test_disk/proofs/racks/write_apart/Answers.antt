@@ -5,7 +5,7 @@ use Rattle.std.proofs.lemmas.Slice.Eq.{bytes_eq-Decides}
 use Rattle.st_rack.specs.Device.{Path}
 use Rattle.st_rack.specs.Calls.{Devices, Has, names}
 use Rattle.st_memrack.specs.MemRack.{mem_devs}
-use Rattle.test_layers.proofs.racks.write_apart.Goals as goal
+use Rattle.test_disk.proofs.racks.write_apart.Goals as goal
 
 one_distinct : (dev : Path) → IsDistinct bytes_eq (dev ∷ [])
 unfolding IsDistinct

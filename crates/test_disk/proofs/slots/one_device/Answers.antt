@@ -1,5 +1,5 @@
 use Rattle.std.specs.List.{IsDistinct}
-use Rattle.test_layers.proofs.slots.one_device.Goals as goal
+use Rattle.test_disk.proofs.slots.one_device.Goals as goal
 
 pub blank-requires : goal.blank-requires
 unfolding IsDistinct

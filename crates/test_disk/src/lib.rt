@@ -1,0 +1,7 @@
+//! Racks with faults, headers and slots.
+#![tactic(auto)]
+
+#[cfg(test)]
+mod racks;
+#[cfg(test)]
+mod slots;

@@ -1,0 +1,7 @@
+//! Tiers, lists, the cache map and growth, on worked rows.
+#![tactic(auto)]
+
+#[cfg(test)]
+mod cache;
+#[cfg(test)]
+mod tiers;

@@ -1,0 +1,5 @@
+//! The words and the lines of an input.
+#![tactic(auto)]
+
+#[cfg(test)]
+mod lines;
