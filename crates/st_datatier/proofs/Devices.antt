@@ -8,8 +8,8 @@ use Rattle.std.proofs.lemmas.List.Elements.{All-nil, All-append, All-weaker}
 use Rattle.std.proofs.lemmas.List.Sums.{sum_by-le, sum_by-cons}
 use Rattle.st_seg.specs.Blocks.{Block, NoneTwice, blocks_from}
 use Rattle.st_seg.proofs.Parts.{length-blocks_from, get_or-blocks_from, drop-blocks_from}
-use Rattle.st_limits.specs.Sums.{usable_blocks, room}
-use Rattle.st_datatier.specs.Tier.{IsDeviceSize, blocks_of_devices, data_blocks, first_block_of}
+use Rattle.st_limits.specs.Sums.{IsDeviceSize, usable_blocks, room}
+use Rattle.st_datatier.specs.Tier.{blocks_of_devices, data_blocks, first_block_of}
 
 joined_apart : (xs ys : List Block) (dev : ℕ) → NoneTwice xs → NoneTwice ys → All (λ (b : Block). b.0 ≡ dev) xs → All (λ (b : Block). dev < b.0) ys → NoneTwice (xs ++ ys)
 joined_apart xs ys dev h g here above i j d below within e =

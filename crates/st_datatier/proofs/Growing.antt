@@ -5,8 +5,8 @@ use Rattle.std.proofs.lemmas.List.{append_assoc, length-append, length-map, get_
 use Rattle.st_units.specs.declared.rows.DevRow.{DevRow}
 use Rattle.st_seg.specs.Blocks.{Block, NoneTwice, blocks_from}
 use Rattle.st_seg.specs.Stock.{Stock, added}
-use Rattle.st_limits.specs.Sums.{usable_blocks, room}
-use Rattle.st_datatier.specs.Tier.{Tier, IsDeviceSize, data_blocks, free_of, first_block_of, sectors_of}
+use Rattle.st_limits.specs.Sums.{IsDeviceSize, usable_blocks, room}
+use Rattle.st_datatier.specs.Tier.{Tier, data_blocks, free_of, first_block_of, sectors_of}
 use Rattle.st_datatier.proofs.Devices.{data_apart, data_blocks-push, length-data_blocks}
 
 -- the blocks of one more device

@@ -1,9 +1,9 @@
 -- the data tier: its devices in order, and how many of their blocks are in use
-use Rattle.std.specs.Prelude.{ℕ, ◌+◌, ◌-◌, ◌≤◌, ◌==◌, List, [], ◌∷◌, ◌++◌, map, drop, if◌then◌else◌}
+use Rattle.std.specs.Prelude.{ℕ, ◌+◌, ◌-◌, ◌==◌, List, [], ◌∷◌, ◌++◌, map, drop, if◌then◌else◌}
 use Rattle.st_units.specs.declared.rows.DevRow.{DevRow}
 use Rattle.st_seg.specs.Blocks.{Block, blocks_from}
 use Rattle.st_limits.specs.Sums.{usable_blocks, room}
-use Rattle.st_limits.specs.declared.TheConstants.{FLEX_BLOCKS, MIN_DEVICE_SECTORS, MAX_SECTORS}
+use Rattle.st_limits.specs.declared.TheConstants.{FLEX_BLOCKS}
 
 -- what a data tier stands for: the sectors of its devices, in order, and the blocks that are allocated
 pub record Tier : Type 0 where
@@ -12,10 +12,6 @@ pub record Tier : Type 0 where
 
 abbrev pub sectors_of : List DevRow → List ℕ
 sectors_of rows = map (λ row. row.sectors) rows
-
--- a size that a device of a pool may have
-abbrev pub IsDeviceSize : ℕ → Type 0
-IsDeviceSize sectors = (MIN_DEVICE_SECTORS ≤ sectors) × (sectors ≤ MAX_SECTORS)
 
 -- the usable blocks of devices in order, the first of which has the number `dev`
 abbrev pub blocks_of_devices : ℕ → List ℕ → List Block

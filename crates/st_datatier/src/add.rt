@@ -1,10 +1,10 @@
 ghost use Rattle.std.specs.Prelude.{◌≡◌, ◌+◌, ◌<◌, ◌≤◌, ◌∷◌, ◌++◌, [], length, OnOk};
 ghost use Rattle.std.specs.List.{All};
 ghost use Rattle.st_seg.specs.Stock.{added};
-ghost use Rattle.st_datatier.specs.Tier.{IsDeviceSize, data_blocks, first_block_of, sectors_of};
+ghost use Rattle.st_limits.specs.Sums.{IsDeviceSize};
+ghost use Rattle.st_datatier.specs.Tier.{data_blocks, first_block_of, sectors_of};
 
-use crate::size::usable_blocks;
-use st_limits::FLEX_BLOCKS;
+use st_limits::{FLEX_BLOCKS, usable_blocks};
 use st_seg::SegAlloc;
 use st_units::{DevRow, NoMemory};
 
@@ -42,7 +42,7 @@ fn add_device(sectors: &mut Vec<u64>, free: &mut SegAlloc, size: u64) -> Result<
 {
     let dev = sectors.len() as u16;
     let first = first_block(dev);
-    free.add(dev, first, usable_blocks(size) - first)?;
+    free.add(dev, first, usable_blocks(size) as u32 - first)?;
     sectors.push(size)?;
     Ok(())
 }

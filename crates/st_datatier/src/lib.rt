@@ -2,8 +2,6 @@
 #![tactic(auto)]
 
 mod add;
-mod size;
 mod tier;
 
-pub use size::{is_device_size, usable_blocks};
 pub use tier::DataTier;

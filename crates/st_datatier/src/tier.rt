@@ -1,8 +1,9 @@
 ghost use Rattle.std.specs.Prelude.{◌≡◌, ℕ, ◌+◌, ◌<◌, ◌≤◌, [], length, take, Err, OnOk, OnErr, IfOk, IfErr};
 ghost use Rattle.std.specs.List.{All};
 ghost use Rattle.st_seg.specs.declared.fault.SegFault.TheVariants.{NoRoom};
+ghost use Rattle.st_limits.specs.Sums.{IsDeviceSize};
 ghost use Rattle.st_limits.specs.Sums as sums;
-ghost use Rattle.st_datatier.specs.Tier.{IsDeviceSize, data_blocks, free_of, sectors_of, with_allocated, with_devices};
+ghost use Rattle.st_datatier.specs.Tier.{data_blocks, free_of, sectors_of, with_allocated, with_devices};
 
 use crate::add::add_rows;
 use st_linear::LinearTable;
@@ -26,7 +27,8 @@ impl Model for DataTier {
     ghost use Rattle.std.specs.Prelude.{◌≡◌, ◌≤◌, length};
     ghost use Rattle.std.specs.List.{All};
     ghost use Rattle.st_seg.specs.Stock.{added};
-    ghost use Rattle.st_datatier.specs.Tier.{Tier, IsDeviceSize, data_blocks};
+    ghost use Rattle.st_limits.specs.Sums.{IsDeviceSize};
+    ghost use Rattle.st_datatier.specs.Tier.{Tier, data_blocks};
 
     ghost Value = { Tier };
 

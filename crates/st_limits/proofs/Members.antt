@@ -1,6 +1,6 @@
 -- what stands in a list of numbers, and what is left without one of them
-use Rattle.std.proofs.Common.{◌≡◌, ℕ, ◌<◌, Bool, true, false, not, List, [], ◌∷◌, ◌++◌, length, cond, eqb, ◌⊎◌, inl, inr, refl, sym, ◌∙◌, ap, subst}
-use Rattle.std.proofs.lemmas.Bool.{cases_eq, cases_Bool, eq-eqb, ne_eqb, eqb-true, eqb-false, or_cases, or_left, or_right, or_from, or_parts, cond-true, cond-false, false_from_ne_true, false≢true, both_ways}
+use Rattle.std.proofs.Common.{◌≡◌, ℕ, true, false, not, List, [], ◌∷◌, eqb, ◌⊎◌, inl, inr, refl, sym, ◌∙◌, ap, subst}
+use Rattle.std.proofs.lemmas.Bool.{cases_eq, eq-eqb, ne_eqb, eqb-true, eqb-false, or_cases, or_left, or_right, or_from, or_parts, cond-true, cond-false, false_from_ne_true, false≢true, both_ways}
 use Rattle.st_limits.specs.Cache.{has, without, AreDistinct}
 
 pub has_head : (x : ℕ) (xs : List ℕ) → has x (x ∷ xs) ≡ true

@@ -1,10 +1,14 @@
 -- the sums of a pool, counted from its devices and maps
-use Rattle.std.specs.Prelude.{ℕ, ◌+◌, ◌-◌, ◌/◌, Bool, true, nat_lt, nat_eq, List, Option, Some, None, is_none, sum_by, count_by}
+use Rattle.std.specs.Prelude.{ℕ, ◌-◌, ◌/◌, ◌≤◌, Bool, true, nat_lt, nat_eq, List, Option, Some, None, is_none, sum_by, count_by}
 use Rattle.std.specs.Map.{lookup}
 use Rattle.std.specs.Set.{distinct_count}
-use Rattle.st_limits.specs.declared.TheConstants.{BLOCK_SECTORS, RESERVED_SECTORS, FLEX_BLOCKS}
+use Rattle.st_limits.specs.declared.TheConstants.{BLOCK_SECTORS, RESERVED_SECTORS, FLEX_BLOCKS, MIN_DEVICE_SECTORS, MAX_DEVICE_SECTORS}
 
--- the blocks of a device of so many sectors
+-- a size that a device of a pool may have
+abbrev pub IsDeviceSize : ℕ → Type 0
+IsDeviceSize sectors = (MIN_DEVICE_SECTORS ≤ sectors) × (sectors ≤ MAX_DEVICE_SECTORS)
+
+-- the usable blocks of a device of so many sectors: what lies behind the head, in whole blocks
 abbrev pub usable_blocks : ℕ → ℕ
 usable_blocks sectors = (sectors - RESERVED_SECTORS) / BLOCK_SECTORS
 
@@ -12,7 +16,7 @@ usable_blocks sectors = (sectors - RESERVED_SECTORS) / BLOCK_SECTORS
 abbrev pub cache_capacity : List ℕ → ℕ
 cache_capacity sectors = sum_by usable_blocks sectors
 
--- the data tier's room, from the sectors of its devices
+-- the data tier's room, from the sectors of its devices: the records of filesystems take the first blocks
 abbrev pub room : List ℕ → ℕ
 room sectors = sum_by usable_blocks sectors - FLEX_BLOCKS
 

@@ -1,7 +1,8 @@
 use Rattle.std.proofs.Common.{sym, subst, ap, ◌∙◌, arith}
 use Rattle.std.specs.List.{All}
 use Rattle.std.proofs.lemmas.List.Elements.{All-push}
-use Rattle.st_datatier.specs.Tier.{IsDeviceSize, data_blocks}
+use Rattle.st_limits.specs.Sums.{IsDeviceSize}
+use Rattle.st_datatier.specs.Tier.{data_blocks}
 use Rattle.st_datatier.proofs.Growing.{few_left, row_size, one_more_row}
 use Rattle.st_datatier.proofs.add.add_rows.Goals as goal
 

@@ -1,7 +1,8 @@
 use Rattle.std.proofs.Common.{◌≡◌, ◌++◌, take}
 use Rattle.std.specs.List.{All}
 use Rattle.st_seg.specs.Stock.{added}
-use Rattle.st_datatier.specs.Tier.{IsDeviceSize, data_blocks, sectors_of}
+use Rattle.st_limits.specs.Sums.{IsDeviceSize}
+use Rattle.st_datatier.specs.Tier.{data_blocks, sectors_of}
 use Rattle.st_datatier.proofs.add.add_rows.Given as goal
 
 abbrev pub invariant-loop-row : goal.invariant-loop-row
