@@ -1,71 +1,93 @@
 -- What is fairly left of a rack is fairly left of its parts, and the other way.
-use Rattle.std.proofs.Common.{◌≡◌, ◌⊎◌, inl, inr, ℕ, ◌≤◌, IsNone, true≢false, Bool, true, false, cond, List, Option, Some, None, is_some, refl, sym, ◌∙◌, ap, subst, arith}
+use Rattle.std.proofs.Common.{◌≡◌, inl, inr, ℕ, IsNone, true≢false, Bool, true, false, cond, List, Option, Some, None, sym, ◌∙◌, ap, subst, arith}
 use Rattle.std.proofs.lemmas.Bool.{cases_Bool, cases_lt}
 use Rattle.st_rack.proofs.Look.{has_or_not, has_is_some}
-use Rattle.st_rack.specs.Story.{Content, NoChance}
-use Rattle.st_rack.specs.Device.{Path, DevState, State, Image, pending}
+use Rattle.st_rack.specs.Story.{Content}
+use Rattle.st_rack.specs.Device.{Path, DevState, State, Image}
 use Rattle.st_rack.specs.Calls.{Devices, Has, sectors_of, names}
-use Rattle.st_rack.specs.Parts.{Splits, Joins}
-use Rattle.st_rack.specs.Left.{FairlyOn}
+use Rattle.st_rack.specs.Parts.{Splits, AreApart, Joins}
+use Rattle.st_rack.specs.Left.{LeavesFairly, FairlyLeft}
 
 no_some : (n : ℕ) → None ≡ Some n → ⊥
 no_some n is = cc
 
 -- one device, of which the state is the same
-module _ {I X : Type 0} (read : I → Path → Content → Option X) (c : Image) (p : Path) (s t : DevState) (same : t ≡ s) where
-  pub left_same : ((i : ℕ) → pending s i ≡ false → c p i ≡ s.holds i) → (i : ℕ) → pending t i ≡ false → c p i ≡ t.holds i
-  left_same left i sure = left i (ap (λ (d : DevState). pending d i) (sym same) ∙ sure) ∙ ap (λ (d : DevState). d.holds i) (sym same)
+carry : {I X : Type 0} (read : I → Path → Content → Option X) (c : Image) (p : Path) (s t : DevState) → s ≡ t → LeavesFairly (λ r. read r p) s (c p) → LeavesFairly (λ r. read r p) t (c p)
+carry read c p s t same = subst (λ (d : DevState). LeavesFairly (λ r. read r p) d (c p)) same
 
-  pub fair_same : (r : I) → NoChance (read r p) s.story (c p) → NoChance (read r p) t.story (c p)
-  fair_same r = subst (λ (d : DevState). NoChance (read r p) d.story (c p)) (sym same)
-
-module _ {D I X : Type 0} (devs : D → Devices) (moment : D → ℕ) (state_at : D → ℕ → State) (read : I → Path → Content → Option X) (list : List Path) (old rest part : D)
-    (s : Splits devs moment state_at list old rest part) where
+module _ {D I X : Type 0} (devs : D → Devices) (moment : D → ℕ) (state_at : D → ℕ → State) (read : I → Path → Content → Option X) where
   abbrev now : D → State
   now r = state_at r (moment r)
 
-  in_part : (p : Path) (n : ℕ) → Has (devs part) p n → (names list p ≡ true) × Has (devs old) p n
-  in_part p n has = elim (cases_Bool (names list p)) [
-    | inl there ↦ (there, sym (ap (λ (b : Bool). cond b (sectors_of (devs old) p) None) there) ∙ sym (s.go p) ∙ has)
-    | inr not_there ↦ absurd (no_some n (sym (ap (λ (b : Bool). cond b (sectors_of (devs old) p) None) not_there) ∙ sym (s.go p) ∙ has))
-  ]
+  module _ (list : List Path) (old rest part : D) (s : Splits devs moment state_at list old rest part) where
+    go_named : (p : Path) → names list p ≡ true → sectors_of (devs part) p ≡ sectors_of (devs old) p
+    go_named p there = s.go p ∙ ap (λ (b : Bool). cond b (sectors_of (devs old) p) None) there
 
-  same_part : (p : Path) → names list p ≡ true → now part p ≡ now old p
-  same_part p there = ap (λ (k : ℕ). state_at part k p) s.clock_gone ∙ s.states_gone (moment old) p there (omega arith)
+    stay_others : (p : Path) → names list p ≡ false → sectors_of (devs rest) p ≡ sectors_of (devs old) p
+    stay_others p miss = s.stay p ∙ ap (λ (b : Bool). cond b None (sectors_of (devs old) p)) miss
 
-  pub part_of_whole : (c : Image) → FairlyOn (devs old) read (now old) c → FairlyOn (devs part) read (now part) c
-  part_of_whole c whole = record {
-    left = λ p n has. (let it = in_part p n has in left_same read c p (now old p) (now part p) (same_part p it.0) (whole.left p n it.1));
-    fair = λ r p n has. (let it = in_part p n has in fair_same read c p (now old p) (now part p) (same_part p it.0) r (whole.fair r p n it.1));
-  }
+    in_part : (p : Path) (n : ℕ) → Has (devs part) p n → names list p ≡ true
+    in_part p n has = elim (cases_Bool (names list p)) [
+      | inl there ↦ there
+      | inr miss ↦ absurd (no_some n (sym (ap (λ (b : Bool). cond b (sectors_of (devs old) p) None) miss) ∙ sym (s.go p) ∙ has))
+    ]
 
-module _ {D I X : Type 0} (devs : D → Devices) (moment : D → ℕ) (state_at : D → ℕ → State) (read : I → Path → Content → Option X) (old other new : D)
-    (apart : (p : Path) (n : ℕ) → Has (devs other) p n → IsNone (sectors_of (devs old) p)) (j : Joins devs moment state_at old other new) where
-  abbrev now' : D → State
-  now' r = state_at r (moment r)
+    in_rest : (p : Path) (n : ℕ) → Has (devs rest) p n → names list p ≡ false
+    in_rest p n has = elim (cases_Bool (names list p)) [
+      | inl there ↦ absurd (no_some n (sym (ap (λ (b : Bool). cond b None (sectors_of (devs old) p)) there) ∙ sym (s.stay p) ∙ has))
+      | inr miss ↦ miss
+    ]
 
-  own_only : (p : Path) (n : ℕ) → Has (devs old) p n → IsNone (sectors_of (devs other) p)
-  own_only p n has = elim (has_or_not (devs other) p) [
-    | inl there ↦ absurd (true≢false (sym (has_is_some (devs old) p n has) ∙ apart p there.0 there.1))
-    | inr none ↦ none
-  ]
+    same_part : (p : Path) → names list p ≡ true → now part p ≡ now old p
+    same_part p there = ap (λ (k : ℕ). state_at part k p) s.clock_gone ∙ s.states_gone (moment old) p there (omega arith)
 
-  same_own : (p : Path) → IsNone (sectors_of (devs other) p) → now' old p ≡ now' new p
-  same_own p none = elim (cases_lt (moment old) (moment new)) [
-    | inl lt ↦ sym (j.since (moment new) p none lt (omega arith))
-    | inr ge ↦
-        let same : moment new ≡ moment old = omega (arith, j.later) in
-        sym (j.states (moment new) p none ge ∙ ap (λ (k : ℕ). state_at old k p) same)
-  ]
+    same_rest : (p : Path) → names list p ≡ false → now rest p ≡ now old p
+    same_rest p miss = ap (λ (k : ℕ). state_at rest k p) s.clock ∙ s.states (moment old) p miss (omega arith)
 
-  pub own_of_joined : (c : Image) → FairlyOn (devs new) read (now' new) c → FairlyOn (devs old) read (now' old) c
-  own_of_joined c whole = record {
-    left = λ p n has. (let none = own_only p n has in left_same read c p (now' new p) (now' old p) (same_own p none) (whole.left p n (j.own p none ∙ has)));
-    fair = λ r p n has. (let none = own_only p n has in fair_same read c p (now' new p) (now' old p) (same_own p none) r (whole.fair r p n (j.own p none ∙ has)));
-  }
+    pub whole_to_part : (c : Image) → FairlyLeft devs moment state_at read old c → FairlyLeft devs moment state_at read part c
+    whole_to_part c whole p n has =
+        let there = in_part p n has in
+        carry read c p (now old p) (now part p) (sym (same_part p there)) (whole p n (sym (go_named p there) ∙ has))
 
-  pub other_of_joined : (c : Image) → FairlyOn (devs new) read (now' new) c → FairlyOn (devs other) read (now' other) c
-  other_of_joined c whole = record {
-    left = λ p n has. left_same read c p (now' new p) (now' other p) (sym (j.states_others (moment new) p n has (omega arith))) (whole.left p n (j.others p n has));
-    fair = λ r p n has. fair_same read c p (now' new p) (now' other p) (sym (j.states_others (moment new) p n has (omega arith))) r (whole.fair r p n (j.others p n has));
-  }
+    pub whole_to_rest : (c : Image) → FairlyLeft devs moment state_at read old c → FairlyLeft devs moment state_at read rest c
+    whole_to_rest c whole p n has =
+        let miss = in_rest p n has in
+        carry read c p (now old p) (now rest p) (sym (same_rest p miss)) (whole p n (sym (stay_others p miss) ∙ has))
+
+    pub parts_to_whole : (c : Image) → FairlyLeft devs moment state_at read rest c → FairlyLeft devs moment state_at read part c → FairlyLeft devs moment state_at read old c
+    parts_to_whole c one two p n has = elim (cases_Bool (names list p)) [
+      | inl there ↦ carry read c p (now part p) (now old p) (same_part p there) (two p n (go_named p there ∙ has))
+      | inr miss ↦ carry read c p (now rest p) (now old p) (same_rest p miss) (one p n (stay_others p miss ∙ has))
+    ]
+
+  module _ (old other new : D) where
+    own_only : AreApart devs old other → (p : Path) (n : ℕ) → Has (devs old) p n → IsNone (sectors_of (devs other) p)
+    own_only apart p n has = elim (has_or_not (devs other) p) [
+      | inl there ↦ absurd (true≢false (sym (has_is_some (devs old) p n has) ∙ apart p there.0 there.1))
+      | inr none ↦ none
+    ]
+
+    same_own : Joins devs moment state_at old other new → (p : Path) → IsNone (sectors_of (devs other) p) → now new p ≡ now old p
+    same_own j p none = elim (cases_lt (moment old) (moment new)) [
+      | inl lt ↦ j.since (moment new) p none lt (omega arith)
+      | inr ge ↦
+          let same : moment new ≡ moment old = omega (arith, j.later) in
+          j.states (moment new) p none ge ∙ ap (λ (k : ℕ). state_at old k p) same
+    ]
+
+    same_other : Joins devs moment state_at old other new → (p : Path) (n : ℕ) → Has (devs other) p n → now new p ≡ now other p
+    same_other j p n has = j.states_others (moment new) p n has (omega arith)
+
+    pub joined_to_own : AreApart devs old other → Joins devs moment state_at old other new → (c : Image) → FairlyLeft devs moment state_at read new c → FairlyLeft devs moment state_at read old c
+    joined_to_own apart j c whole p n has =
+        let none = own_only apart p n has in
+        carry read c p (now new p) (now old p) (same_own j p none) (whole p n (j.own p none ∙ has))
+
+    pub joined_to_other : Joins devs moment state_at old other new → (c : Image) → FairlyLeft devs moment state_at read new c → FairlyLeft devs moment state_at read other c
+    joined_to_other j c whole p n has = carry read c p (now new p) (now other p) (same_other j p n has) (whole p n (j.others p n has))
+
+    pub both_to_joined : Joins devs moment state_at old other new → (c : Image) → FairlyLeft devs moment state_at read old c → FairlyLeft devs moment state_at read other c → FairlyLeft devs moment state_at read new c
+    both_to_joined j c one two p n has = elim (has_or_not (devs other) p) [
+      | inl there ↦ carry read c p (now other p) (now new p) (sym (same_other j p there.0 there.1)) (two p there.0 there.1)
+      | inr none ↦ carry read c p (now old p) (now new p) (sym (same_own j p none)) (one p n (sym (j.own p none) ∙ has))
+    ]

@@ -7,4 +7,6 @@ pub mod Readers
 pub mod Straight
 pub mod Growth
 pub mod Look
+pub mod Left
 pub mod Apart
+pub mod Written

@@ -23,3 +23,9 @@ same_or_other p dev = elim (cases_Bool (bytes_eq p dev)) [
   | inl here ↦ inl ((bytes_eq-Decides p dev).0 here)
   | inr there ↦ inr (λ e. cc ((bytes_eq-Decides p dev).1 e))
 ]
+
+pub on_path : (p dev : Path) → p ≡ dev → bytes_eq p dev ≡ true
+on_path p dev same = (bytes_eq-Decides p dev).1 same
+
+pub off_path : (p dev : Path) → p ≢ dev → bytes_eq p dev ≡ false
+off_path p dev ne = elim (cases_Bool (bytes_eq p dev)) [ inl here ↦ absurd (ne ((bytes_eq-Decides p dev).0 here)) | inr there ↦ there ]

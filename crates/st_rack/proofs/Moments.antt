@@ -2,7 +2,7 @@
 use Rattle.std.proofs.Common.{◌≡◌, inl, inr, ℕ, ◌≤◌, refl, sym, ◌∙◌, ap, subst, arith}
 use Rattle.std.proofs.lemmas.Bool.{cases_lt}
 use Rattle.st_rack.specs.Device.{Path, DevState, State, Image, MayLeave}
-use Rattle.st_rack.specs.Moments.{LeftSince, Goes, OnDevice, Keeps}
+use Rattle.st_rack.specs.Moments.{LeftSince, Goes, OnDevice, Always, Keeps}
 
 module _ {D : Type 0} (moment : D → ℕ) (state_at : D → ℕ → State) where
   abbrev now : D → State
@@ -76,6 +76,27 @@ module _ {D : Type 0} (moment : D → ℕ) (state_at : D → ℕ → State) wher
       | inr before ↦ subst Q (λ i p. sym (two.past k p before) i) (one.all k from before)
       | inl after ↦ two.all k (omega (arith, after)) until
     ];
+  }
+
+  pub keeps_always : (Q : State → Type 0) (old new : D) → Keeps moment state_at Q old new → Always moment state_at Q old new
+  keeps_always Q old new keeps = keeps.all
+
+  pub always_weak : (P Q : State → Type 0) (old new : D) → ((s : State) → P s → Q s) → Always moment state_at P old new → Always moment state_at Q old new
+  always_weak P Q old new weaker always k from until = weaker (state_at new k) (always k from until)
+
+  -- A run whose first part keeps it, and whose second has it from there on.
+  pub always_on : (Q : State → Type 0) (old mid new : D) → Keeps moment state_at Q old mid → ((k : ℕ) (p : Path) → k ≤ moment mid → state_at new k p ≡ state_at mid k p) → Always moment state_at Q mid new → Always moment state_at Q old new
+  always_on Q old mid new one past two k from until = elim (cases_lt (moment mid) k) [
+    | inr before ↦ subst Q (λ i p. sym (past k p before) i) (one.all k from before)
+    | inl after ↦ two k (omega (arith, after)) until
+  ]
+
+  -- a run that begins where nothing changes, as with a read
+  pub keeps_from : (Q : State → Type 0) (old mid new : D) → moment mid ≡ moment old → state_at mid ≡ state_at old → Keeps moment state_at Q mid new → Keeps moment state_at Q old new
+  keeps_from Q old mid new clock states keeps = record {
+    later = omega (arith, keeps.later, clock);
+    past = λ k p le. keeps.past k p (omega (arith, le, clock)) ∙ (λ i. states i k p);
+    all = λ k from until. keeps.all k (omega (arith, from, clock)) until;
   }
 
 -- steps on one device make a step on it

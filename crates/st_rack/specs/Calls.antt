@@ -1,10 +1,11 @@
 -- Words of the calls of a rack.
-use Rattle.std.specs.Prelude.{◌≡◌, ℕ, ◌+◌, ◌*◌, ◌%◌, ◌^◌, ◌-◌, ◌<◌, ◌≤◌, min, Bool, List, [], ◌∷◌, map, Result, OnErr, Option, Some, None, if◌then◌else◌}
+use Rattle.std.specs.Prelude.{◌≡◌, ℕ, ◌+◌, ◌*◌, ◌%◌, ◌<◌, ◌≤◌, Bool, List, [], ◌∷◌, map, length, unwrap_or, Option, Some, None, if◌then◌else◌}
 use Rattle.std.specs.Ordering.{nat_cmp}
 use Rattle.std.specs.Cmp.Lexicographic.{slice_cmp}
 use Rattle.std.specs.Str.{bytes_eq}
 use Rattle.std.specs.List.{list_any}
 use Rattle.std.specs.List.Sorted.{IsStrictlySortedBy}
+use Rattle.st_limits.specs.declared.TheConstants.{MAX_RACK_DEVICES, MAX_DEVICE_SECTORS}
 use Rattle.st_rack.specs.Device.{Path}
 
 -- devices and their sectors, in order
@@ -27,6 +28,15 @@ sectors_of (d ∷ ds) p = if bytes_eq d.0 p then Some d.1 else sectors_of ds p
 abbrev pub Has : Devices → Path → ℕ → Type 0
 Has devs p n = sectors_of devs p ≡ Some n
 
+-- the sectors of a device that is there
+abbrev pub size_in : Devices → Path → ℕ
+size_in devs p = unwrap_or (sectors_of devs p) 0
+
+-- what a run asks of its rack: not too many devices, and none with too many sectors
+pub record IsFit (devs : Devices) : Type 0 where
+  pub few : length devs ≤ MAX_RACK_DEVICES
+  pub small : (p : Path) (n : ℕ) → Has devs p n → n ≤ MAX_DEVICE_SECTORS
+
 -- the list names the device
 abbrev pub names : List Path → Path → Bool
 names list p = list_any (λ q. bytes_eq q p) list
@@ -38,12 +48,3 @@ pub record IsWithin (devs : Devices) (dev : Path) (sector bytes : ℕ) : Type 0 
   pub whole : bytes % 512 ≡ 0
   pub some : 0 < bytes
   pub within : 512 * sector + bytes ≤ 512 * sectors
-
--- A count rises, or stands at its last value.
-abbrev pub Rose : ℕ → ℕ → Type 0
-Rose before now = min (before + 1) (2 ^ 64 - 1) ≤ now
-
--- A fault is answered only where the count of faults rose, and the count never falls.
-pub record HasCause {T E : Type 0} (before now : ℕ) (result : Result T E) : Type 0 where
-  pub later : before ≤ now
-  pub failed : OnErr result (Rose before now)

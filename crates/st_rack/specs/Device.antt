@@ -1,6 +1,6 @@
 -- What a device holds, and what a crash may leave of it.
-use Rattle.std.specs.Prelude.{◌≡◌, ◌⊎◌, ℕ, zero, suc, ◌+◌, ◌<◌, ◌≤◌, Bool, false, List, [], ◌∷◌, length, Option}
-use Rattle.st_rack.specs.Story.{Content, Story, Wrote, Settled, unsettled, NoChance}
+use Rattle.std.specs.Prelude.{◌≡◌, ◌⊎◌, ℕ, zero, suc, ◌+◌, ◌<◌, ◌≤◌, Bool, false, List, [], ◌∷◌, length}
+use Rattle.st_rack.specs.Story.{Content, Story, Wrote, Settled, unsettled}
 
 -- the bytes of a device's path
 abbrev pub Path : Type 0
@@ -27,14 +27,13 @@ Image = Path → Content
 abbrev pub held : State → Image
 held state p = (state p).holds
 
--- A crash leaves each byte that isn't pending as a read gives it, and anything in the others.
-abbrev pub MayLeave : State → Image → Type 0
-MayLeave state c = (p : Path) (i : ℕ) → pending (state p) i ≡ false → c p i ≡ (state p).holds i
+-- A crash leaves each byte of a device that isn't pending as a read gives it, and anything in the others.
+abbrev pub Leaves : DevState → Content → Type 0
+Leaves s f = (i : ℕ) → pending s i ≡ false → f i ≡ s.holds i
 
--- A crash may leave this image, and for these readers no torn text in it is valid by chance.
-pub record FairlyLeaves {I X : Type 0} (read : I → Path → Content → Option X) (state : State) (c : Image) : Type 0 where
-  pub left : MayLeave state c
-  pub fair : (r : I) (p : Path) → NoChance (read r p) (state p).story (c p)
+-- so it is of each path
+abbrev pub MayLeave : State → Image → Type 0
+MayLeave state c = (p : Path) → Leaves (state p) (c p)
 
 -- n bytes from `at` on, as a list
 abbrev pub cells : Content → ℕ → ℕ → List ℕ
@@ -63,7 +62,7 @@ pub record Synced (old new : DevState) : Type 0 where
 
 -- A power cut leaves one of the contents that a crash may leave, and settles it.
 pub record Cut (old new : DevState) : Type 0 where
-  pub left : (i : ℕ) → pending old i ≡ false → new.holds i ≡ old.holds i
+  pub left : Leaves old new.holds
   pub told : new.story ≡ Settled new.holds old.story
 
 -- nothing of the device is pending

@@ -22,6 +22,10 @@ pub record Splits {D : Type 0} (devs : D → Devices) (moment : D → ℕ) (stat
   pub states : (k : ℕ) (p : Path) → names list p ≡ false → k ≤ moment old → state_at rest k p ≡ state_at old k p
   pub states_gone : (k : ℕ) (p : Path) → names list p ≡ true → k ≤ moment old → state_at part k p ≡ state_at old k p
 
+-- the first rack has no device of the second
+abbrev pub AreApart : {D : Type 0} → (D → Devices) → D → D → Type 0
+AreApart devs one other = (p : Path) (n : ℕ) → Has (devs other) p n → IsNone (sectors_of (devs one) p)
+
 -- The joined rack has the devices of both, and goes on from the clock of the one that took the other in. Up to the call, its own
 -- devices were what they were, and the others are taken as what they are now.
 pub record Joins {D : Type 0} (devs : D → Devices) (moment : D → ℕ) (state_at : D → ℕ → State) (old other new : D) : Type 0 where

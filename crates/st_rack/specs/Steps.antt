@@ -1,6 +1,7 @@
 -- Steps of a device that clients of a rack speak of.
-use Rattle.std.specs.Prelude.{◌≡◌, ◌≢◌, ◌⊎◌, ℕ, ◌+◌, ◌<◌, ◌≤◌, false, List, length}
-use Rattle.st_rack.specs.Story.{Wrote, Settled}
+use Rattle.std.specs.Prelude.{◌≡◌, ◌≢◌, ◌⊎◌, ℕ, ◌+◌, ◌<◌, ◌≤◌, false, List, length, if◌then◌else◌}
+use Rattle.std.specs.Str.{bytes_eq}
+use Rattle.st_rack.specs.Story.{Wrote, Settled, put_in}
 use Rattle.st_rack.specs.Device.{Path, DevState, State, Image, MayLeave, pending, Written}
 
 -- What a write and a sync may do together: outside n bytes nothing else is held, and what was sure stays so.
@@ -20,6 +21,10 @@ pub record Rewritten (at : ℕ) (bytes : List ℕ) (old new : DevState) : Type 0
   pub changed : Changed at (length bytes) old new
   pub told : new.story ≡ Settled new.holds (Wrote at bytes old.story)
   pub given : Written at bytes new
+
+-- the image with these bytes on a device
+abbrev pub put_on : Path → ℕ → List ℕ → Image → Image
+put_on dev at bytes c p = if bytes_eq p dev then put_in at bytes (c p) else c p
 
 -- Two images agree outside n bytes of a device.
 pub record SameOutside (dev : Path) (at n : ℕ) (c d : Image) : Type 0 where

@@ -3,8 +3,9 @@ ghost use Rattle.std.specs.Str.{bytes_eq};
 ghost use Rattle.std.specs.List.{IsDistinct};
 ghost use Rattle.st_rack.specs.Device.{Path, DevState, State, cells, Touched, Written, Settling, Synced};
 ghost use Rattle.st_rack.specs.Moments.{Goes, OnDevice, AllCut};
-ghost use Rattle.st_rack.specs.Calls.{Devices, Rises, Has, sectors_of, names, IsWithin, HasCause, Rose};
-ghost use Rattle.st_rack.specs.Parts.{IsSame, Splits, Joins};
+ghost use Rattle.st_rack.specs.Calls.{Devices, Rises, Has, sectors_of, size_in, names, IsWithin};
+ghost use Rattle.st_units.specs.Causes.{HasCause, Rose};
+ghost use Rattle.st_rack.specs.Parts.{IsSame, Splits, AreApart, Joins};
 
 use st_units::{DevList, DevPath, NoMemory};
 use std::alloc::Global;
@@ -44,7 +45,8 @@ pub trait Rack: Sized {
     /// The path of a device; paths rise in byte order by index.
     fn path_of(&self, index: usize) -> &DevPath
         requires { index < length (devs self.now) }
-        ensures { (n : ℕ) × (slice_get (devs self.now) index ≡ Some (result.now, n)) };
+        ensures at { slice_get (devs self.now) index ≡ Some (result.now, size_in (devs self.now) result.now) }
+        ensures has { Has (devs self.now) result.now (size_in (devs self.now) result.now) };
 
     /// The sectors of a device, None where the rack doesn't have it.
     fn sectors(&self, dev: &DevPath) -> Option<u64>
@@ -106,7 +108,7 @@ pub trait Rack: Sized {
 
     /// Takes another rack's devices in, which this one doesn't have, into its spare places; it takes no memory.
     fn absorb(&mut self, other: Self)
-        requires apart { (p : Path) (n : ℕ) → Has (devs other) p n → IsNone (sectors_of (devs self.old) p) }
+        requires apart { AreApart devs self.old other }
         requires room { length (devs other) ≤ spare self.old }
         ensures joined { Joins devs moment state_at self.old other self.new }
         ensures places { spare self.old ≤ spare self.new + length (devs other) }
