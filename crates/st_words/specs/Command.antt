@@ -1,14 +1,40 @@
--- the words of the command line, after the program's name
-use Rattle.std.specs.Prelude.{ℕ, List, [], ◌∷◌, Bool, true, false, ◌&&◌, Option, Some, None, bytes_eq, codes, if◌then◌else◌}
-use Rattle.st_words.specs.declared.words.Words.{Words}
-use Rattle.st_words.specs.declared.words.RunMode.TheVariants.{Run}
+-- the command of which the words are an instance
+use Rattle.std.specs.Prelude.{ℕ, List, ◌==◌, Bool, true, Some, length, codes}
+use Rattle.clap.specs.Words.{App, Rule, fault_of, new_app, new_rule, with_rule}
+use Rattle.clap.specs.declared.builder.action.ArgAction.TheVariants.{Set, SetTrue}
 
--- a run on one lane, with the trace or without
-abbrev pub run_with : Bool → Words
-run_with trace = record { mode = Run; lanes = 1; trace = trace; recover = false; number = 0 }
+-- the command without its arguments: it has no help and no version, and the words come without the program's name
+abbrev pub bare_command : App
+bare_command = record (new_app (codes "stratis_sim")) {
+  top = record (new_app (codes "stratis_sim")).top {
+    no_binary_name = true;
+    disable_help_flag = true;
+    disable_version_flag = true;
+  };
+}
 
--- `run`, or `run --trace`; no other words mean anything
-abbrev pub words_of : List (List ℕ) → Option Words
-words_of (mode ∷ []) = if bytes_eq mode (codes "run") then Some (run_with false) else None
-words_of (mode ∷ option ∷ []) = if bytes_eq mode (codes "run") && bytes_eq option (codes "--trace") then Some (run_with true) else None
-words_of words = None
+-- what the program is to do: the one argument without a name, which must stand
+abbrev pub mode_rule : Rule
+mode_rule = record (new_rule (codes "mode")) { required = true; action = Some Set }
+
+-- an option with a value
+abbrev pub option_rule : List ℕ → Rule
+option_rule name = record (new_rule name) { long = Some name; action = Some Set }
+
+-- an option without one
+abbrev pub flag_rule : List ℕ → Rule
+flag_rule name = record (new_rule name) { long = Some name; action = Some SetTrue }
+
+-- `MODE [--lanes N] [--number N] [--trace]`
+abbrev pub command : App
+command =
+    with_rule (with_rule (with_rule (with_rule bare_command
+    mode_rule)
+    (option_rule (codes "lanes")))
+    (option_rule (codes "number")))
+    (flag_rule (codes "trace"))
+
+-- the command finds no fault in the words: each option at most once, in any order, its value in a word of
+-- its own or behind `=`; after a word `--` no word is an option
+unfoldable pub takes_words : List (List ℕ) → Bool
+takes_words words = length (fault_of command words) == 0
