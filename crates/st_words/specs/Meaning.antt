@@ -4,6 +4,7 @@ use Rattle.std.specs.Option.{option_map_or}
 use Rattle.std.specs.Str.Parse.{digits_value, without_leading_plus}
 use Rattle.clap.specs.ValueTests.{is_unsigned_in}
 use Rattle.clap.specs.Words.{Row, first_of, matches_of}
+use Rattle.st_limits.specs.declared.TheConstants.{MAX_LANES}
 use Rattle.st_words.specs.declared.words.Words.{Words}
 use Rattle.st_words.specs.declared.words.RunMode.{RunMode}
 use Rattle.st_words.specs.declared.words.RunMode.TheVariants.{Run, Check, Gen}
@@ -21,11 +22,11 @@ unfoldable pub number_in : List ℕ → Option ℕ
 number_in text = if is_unsigned_in 0 18446744073709551615 text then Some (digits_value 10 (without_leading_plus text)) else None
 
 abbrev pub as_lanes : ℕ → Option ℕ
-as_lanes lanes = if nat_le 1 lanes && nat_le lanes 8 then Some lanes else None
+as_lanes lanes = if nat_le 1 lanes && nat_le lanes MAX_LANES then Some lanes else None
 
--- 1 to 8, and 8 where no word says it
+-- 1 to 8, and the most where no word says it
 unfoldable pub lanes_told : Option (List ℕ) → Option ℕ
-lanes_told None = Some 8
+lanes_told None = Some MAX_LANES
 lanes_told (Some text) = option_and_then as_lanes (number_in text)
 
 -- 0 where no word says it

@@ -1,4 +1,5 @@
 ghost use Rattle.std.specs.Prelude.{◌≡◌, ◌≤◌, ℕ, List, true, false, Some, None, Err, IfOk, IfSome, map, option_map, string_bytes};
+ghost use Rattle.st_limits.specs.declared.TheConstants.{MAX_LANES};
 ghost use Rattle.clap.specs.Words.{first_of, found_of, matches_of, rows_of};
 ghost use Rattle.st_words.specs.Command.{command, takes_words};
 ghost use Rattle.st_words.specs.Meaning.{as_lanes, is_told, lanes_told, meaning, mode_named, number_in, number_told, words_of};
@@ -6,6 +7,7 @@ ghost use Rattle.st_words.specs.Meaning.{as_lanes, is_told, lanes_told, meaning,
 use crate::command::command;
 use clap::ArgMatches;
 use clap::error::ErrorKind;
+use st_limits::MAX_LANES;
 use std::alloc::{AllocError, Global};
 use thiserror::Error;
 
@@ -59,7 +61,7 @@ impl From<AllocError> for WordsFault {
 pub fn read_words(alloc: Global, words: &[String]) -> Result<Words, WordsFault>
     ensures words { IfOk result (λ read. words_of (map string_bytes words.now) ≡ Some read) }
     ensures usage { result ≡ Err WordsFault.Usage → words_of (map string_bytes words.now) ≡ None }
-    ensures lanes { IfOk result (λ read. (1 ≤ read.lanes) × (read.lanes ≤ 8)) }
+    ensures lanes { IfOk result (λ read. (1 ≤ read.lanes) × (read.lanes ≤ MAX_LANES)) }
 {
     let matches = matches_of(alloc, words)?;
     match meaning(&matches) {
@@ -92,7 +94,7 @@ fn fault_of(kind: ErrorKind) -> WordsFault
 #[tactic(auto, unfolding(crate::specs::Meaning::meaning))]
 fn meaning(matches: &ArgMatches<'_>) -> Option<Words>
     ensures meaning { result ≡ meaning (rows_of (found_of matches.now)) }
-    ensures lanes { IfSome result (λ read. (1 ≤ read.lanes) × (read.lanes ≤ 8)) }
+    ensures lanes { IfSome result (λ read. (1 ≤ read.lanes) × (read.lanes ≤ MAX_LANES)) }
 {
     let mode = mode_named(value(matches, "mode")?)?;
     let lanes = lanes_told(value(matches, "lanes"))?;
@@ -127,19 +129,19 @@ fn mode_named(text: &str) -> Option<RunMode>
 #[tactic(auto, unfolding(crate::specs::Meaning::lanes_told))]
 fn lanes_told(text: Option<&str>) -> Option<u8>
     ensures told { result ≡ lanes_told (option_map (λ text. text.now) text.entry) }
-    ensures lanes { IfSome result (λ lanes. (1 ≤ lanes) × (lanes ≤ 8)) }
+    ensures lanes { IfSome result (λ lanes. (1 ≤ lanes) × (lanes ≤ MAX_LANES)) }
 {
     match text {
         Some(text) => as_lanes(number_in(text)?),
-        None => Some(8),
+        None => Some(MAX_LANES as u8),
     }
 }
 
 fn as_lanes(lanes: u64) -> Option<u8>
     ensures is { result ≡ as_lanes lanes }
-    ensures lanes { IfSome result (λ lanes. (1 ≤ lanes) × (lanes ≤ 8)) }
+    ensures lanes { IfSome result (λ lanes. (1 ≤ lanes) × (lanes ≤ MAX_LANES)) }
 {
-    if 1 <= lanes && lanes <= 8 {
+    if 1 <= lanes && lanes <= MAX_LANES {
         Some(lanes as u8)
     } else {
         None
