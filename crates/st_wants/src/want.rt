@@ -1,8 +1,9 @@
 ghost use Rattle.std.specs.Prelude.{◌≡◌, IfOk};
 ghost use Rattle.st_wants.specs.declared.want.Want.{Want};
-ghost use Rattle.st_wants.specs.Wants.{compatible, mode_of, pools_differ};
+ghost use Rattle.st_wants.specs.Wants.{compatible, mode_of, pools_differ, share_a_name};
 
-use st_units::{Name, NoMemory};
+use crate::names::Names;
+use st_units::NoMemory;
 
 /// What is done with what a want covers.
 #[derive(Debug, Clone, Copy, PartialEq, Eq, Drop)]
@@ -11,10 +12,10 @@ pub enum Mode {
     Write,
 }
 
-/// What a ticket asks for: one pool by its name, or all pools and the table of pools.
+/// What a ticket asks for: some pools by their names, or all pools and the table of pools.
 #[derive(Drop)]
 pub enum Want {
-    Some(Name, Mode),
+    Some(Names, Mode),
     All(Mode),
 }
 
@@ -24,7 +25,7 @@ impl Want {
         ensures { IfOk result (λ w. w ≡ self.now) }
     {
         match self {
-            Want::Some(name, mode) => Ok(Want::Some(name.copy()?, *mode)),
+            Want::Some(names, mode) => Ok(Want::Some(names.copy()?, *mode)),
             Want::All(mode) => Ok(Want::All(*mode)),
         }
     }
@@ -38,19 +39,25 @@ impl Want {
     }
 }
 
-/// Whether both may be granted at one time: both read, or both name one pool and the names
-/// differ.
+/// Whether both may be granted at one time: both read, or both name pools and have no name in
+/// common.
 pub fn compatible(a: &Want, b: &Want) -> bool
     ensures { result ≡ compatible a.now b.now }
 {
     (a.mode() == Mode::Read && b.mode() == Mode::Read) || name_different_pools(a, b)
 }
 
+fn share_a_name(ps: &Names, qs: &Names) -> bool
+    ensures { result ≡ share_a_name ps.now qs.now }
+{
+    ps.list().items().iter().any(|p| qs.has(p))
+}
+
 fn name_different_pools(a: &Want, b: &Want) -> bool
     ensures { result ≡ pools_differ a.now b.now }
 {
     match (a, b) {
-        (Want::Some(p, _), Want::Some(q, _)) => p.bytes() != q.bytes(),
+        (Want::Some(ps, _), Want::Some(qs, _)) => !share_a_name(ps, qs),
         (Want::Some(_, _), Want::All(_)) | (Want::All(_), _) => false,
     }
 }
