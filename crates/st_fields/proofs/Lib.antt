@@ -1,3 +1,4 @@
 pub mod Spellings
 pub mod Slots
 pub mod Changes
+pub mod Sectors

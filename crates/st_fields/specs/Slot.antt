@@ -1,5 +1,6 @@
--- A slot: a head of 64 bytes, whose seal covers its other fields and the body, and then the body.
-use Rattle.std.specs.Prelude.{◌≡◌, ◌≢◌, ℕ, ◌+◌, ◌-◌, ◌*◌, ◌/◌, ◌%◌, ◌^◌, ◌≤◌, Bool, ◌&&◌, nat_le, nat_eq, List, ◌++◌, length, take, drop, replicate, Option, Some, None, if◌then◌else◌}
+-- A sealed text: a head of 64 bytes, whose seal covers its other fields and the body, and then the body. It stands at the start of a
+-- slot, or fills whole sectors.
+use Rattle.std.specs.Prelude.{◌≡◌, ◌≢◌, ℕ, ◌+◌, ◌-◌, ◌*◌, ◌/◌, ◌^◌, ◌≤◌, Bool, ◌&&◌, nat_le, List, ◌++◌, length, take, drop, replicate, Option, Some, None, if◌then◌else◌}
 use Rattle.std.specs.Str.{bytes_eq}
 use Rattle.st_fields.specs.Fields.{number_at, spelling, digest}
 
@@ -23,15 +24,14 @@ padded n = 512 * ((n + 511) / 512)
 abbrev pub slot_bytes : List ℕ → ℕ → List ℕ → List ℕ
 slot_bytes magic generation body = slot_text magic generation body ++ replicate (padded (64 + length body) - (64 + length body)) 0
 
--- The bytes of the slot in this place, 0 or 1, begin with the spelling of this generation and body.
-pub record IsSlot (magic : List ℕ) (place : ℕ) (bytes : List ℕ) (generation : ℕ) (body : List ℕ) : Type 0 where
+-- The bytes begin with the spelling of this generation and body.
+pub record IsSealed (magic bytes : List ℕ) (generation : ℕ) (body : List ℕ) : Type 0 where
   pub from : 1 ≤ generation
   pub until : generation ≤ 2 ^ 48
-  pub in_place : generation % 2 ≡ place
   pub rest : List ℕ
   pub spelled : bytes ≡ slot_text magic generation body ++ rest
 
--- a generation and its body, if there is a valid slot
+-- a generation and its body, if a valid text was found
 abbrev pub Found : Type 0
 Found = Option (ℕ × List ℕ)
 
@@ -44,15 +44,23 @@ length_in bytes = number_at 8 16 bytes
 abbrev pub body_in : List ℕ → List ℕ
 body_in bytes = take (length_in bytes) (drop 64 bytes)
 
--- it is a generation, and its slot is in this place
-abbrev pub is_generation : ℕ → ℕ → Bool
-is_generation place generation = nat_le 1 generation && (nat_le generation (2 ^ 48) && nat_eq (generation % 2) place)
+abbrev pub is_generation : ℕ → Bool
+is_generation generation = nat_le 1 generation && nat_le generation (2 ^ 48)
 
 -- the same as a function: what the bytes say, where they begin with the spelling of it
-unfoldable pub slot_of : List ℕ → ℕ → List ℕ → Found
-slot_of magic place bytes =
-    if (is_generation place (generation_in bytes) && bytes_eq (take (64 + length_in bytes) bytes) (slot_text magic (generation_in bytes) (body_in bytes)))
+unfoldable pub sealed_of : List ℕ → List ℕ → Found
+sealed_of magic bytes =
+    if (is_generation (generation_in bytes) && bytes_eq (take (64 + length_in bytes) bytes) (slot_text magic (generation_in bytes) (body_in bytes)))
     then Some (generation_in bytes, body_in bytes) else None
+
+-- what was found, if its spelling and zero bytes up to a whole sector are all the bytes
+abbrev pub whole_in : List ℕ → List ℕ → Found → Found
+whole_in magic bytes None = None
+whole_in magic bytes (Some x) = if bytes_eq bytes (slot_bytes magic x.0 x.1) then Some x else None
+
+-- a sealed text that fills its sectors
+unfoldable pub sector_of : List ℕ → List ℕ → Found
+sector_of magic bytes = whole_in magic bytes (sealed_of magic bytes)
 
 -- what the seal of a generation and a body covers
 abbrev pub message_of : List ℕ → ℕ × List ℕ → List ℕ
