@@ -1,6 +1,9 @@
-pub mod Heads
-pub mod Records
 pub mod Running
+pub mod Texts
+pub mod Places
 pub mod OldOrNew
 pub mod Crashes
+pub mod Heads
+pub mod Records
+pub mod Sectors
 pub mod Greatest

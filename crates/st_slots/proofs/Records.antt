@@ -4,14 +4,14 @@ use Rattle.std.proofs.lemmas.Bool.{cases_Bool, true≢false}
 use Rattle.std.proofs.lemmas.List.{take-append-le, drop-append-le, length-take-le, length-drop, take_at}
 use Rattle.std.proofs.lemmas.Slice.Eq.{bytes_eq-Decides}
 use Rattle.st_fields.specs.Fields.{digest}
-use Rattle.st_fields.specs.Slot.{Found, IsSlot, slot_fields, slot_seal, slot_text, slot_of, padded, length_in}
-use Rattle.st_fields.proofs.Slots.{slot_of-is, is-slot_of, text_of_parts, fields_of, seal_of, body_of, length-slot_text, length_in-fields}
+use Rattle.st_fields.specs.Slot.{Found, IsSealed, slot_fields, slot_seal, slot_text, sealed_of, padded, length_in}
+use Rattle.st_fields.proofs.Slots.{sealed_of-is, is-sealed_of, text_of_parts, fields_of, seal_of, body_of, length-slot_text, length_in-fields}
 use Rattle.st_rack.specs.Story.{Content}
 use Rattle.st_rack.specs.Device.{cells}
 use Rattle.st_rack.proofs.Cells.{length-cells, cells-add}
 use Rattle.st_slots.specs.declared.spot.Area.{Area}
 use Rattle.st_slots.specs.Places.{place_at}
-use Rattle.st_slots.specs.Reading.{bytes_at, read_slot, IsHead, has_seal, sealed_in}
+use Rattle.st_slots.specs.Reading.{bytes_at, read_any, IsHead, has_seal, sealed_in}
 
 none_or_some : (o : Found) → (o ≡ None) ⊎ ((x : ℕ × List ℕ) × (o ≡ Some x))
 none_or_some None = inl refl
@@ -25,7 +25,7 @@ begins area place n f le =
     ap (cells f (place_at area place)) whole ∙ cells-add f (place_at area place) n (512 * area.slot - n)
 
 -- A valid slot has a sound head.
-module _ (area : Area) (place : ℕ) (f : Content) (x : ℕ × List ℕ) (eight : length area.magic ≡ 8) (slot : IsSlot area.magic place (bytes_at area place f) x.0 x.1) where
+module _ (area : Area) (place : ℕ) (f : Content) (x : ℕ × List ℕ) (eight : length area.magic ≡ 8) (slot : IsSealed area.magic (bytes_at area place f) x.0 x.1) where
   body_fits : 64 + length x.1 ≤ 512 * area.slot
   body_fits =
       let text : List ℕ = slot_text area.magic x.0 x.1 in
@@ -39,23 +39,23 @@ module _ (area : Area) (place : ℕ) (f : Content) (x : ℕ × List ℕ) (eight 
       ∙ ap (take 32) (sym (begins area place n f le) ∙ slot.spelled)
       ∙ fields_of area.magic x.1 slot.rest x.0 eight
 
-  head_in : 1 ≤ area.slot → IsHead area place (cells f (place_at area place) 512) x.0 (length x.1)
-  head_in some = record { from = slot.from; until = slot.until; in_place = slot.in_place; fits = body_fits; spelled = fields_in 512 (omega arith) (omega arith) }
+  head_in : 1 ≤ area.slot → IsHead area (cells f (place_at area place) 512) x.0 (length x.1)
+  head_in some = record { from = slot.from; until = slot.until; fits = body_fits; spelled = fields_in 512 (omega arith) (omega arith) }
 
 -- Where no head is sound, no slot is valid.
 pub unsound : (area : Area) (place : ℕ) (f : Content) → length area.magic ≡ 8 → 1 ≤ area.slot
-    → ((g n : ℕ) → ¬ IsHead area place (cells f (place_at area place) 512) g n) → None ≡ read_slot area place f
-unsound area place f eight some no_head = elim (none_or_some (read_slot area place f)) [
+    → ((g n : ℕ) → ¬ IsHead area (cells f (place_at area place) 512) g n) → None ≡ read_any area place f
+unsound area place f eight some no_head = elim (none_or_some (read_any area place f)) [
   | inl nothing ↦ sym nothing
   | inr found ↦
       let x = found.0 in
-      let slot = slot_of-is area.magic place (bytes_at area place f) x found.1 in
+      let slot = sealed_of-is area.magic (bytes_at area place f) x found.1 in
       absurd (no_head x.0 (length x.1) (head_in area place f x eight slot some))
 ]
 
 -- Where the head is sound, the seal decides.
 module _ (area : Area) (place : ℕ) (f : Content) (g n : ℕ) (eight : length area.magic ≡ 8) (some : 1 ≤ area.slot) (small : area.slot ≤ 2 ^ 32)
-    (head : IsHead area place (cells f (place_at area place) 512) g n) where
+    (head : IsHead area (cells f (place_at area place) 512) g n) where
   abbrev m : ℕ
   m = padded (64 + n)
 
@@ -106,21 +106,21 @@ module _ (area : Area) (place : ℕ) (f : Content) (g n : ℕ) (eight : length a
   message : digest (take 32 part ++ body) ≡ slot_seal area.magic g body
   message = (λ i. digest ((sym fields_same ∙ fields_right ∙ ap (slot_fields area.magic g) (sym size)) i ++ body))
 
-  right : has_seal part n ≡ true → slot_of area.magic place whole ≡ Some (g, body)
+  right : has_seal part n ≡ true → sealed_of area.magic whole ≡ Some (g, body)
   right good =
       let tested = (bytes_eq-Decides (take 32 (drop 32 part)) (digest (take 32 part ++ body))).0 good in
       let spelled = text_of_parts area.magic body whole g (fields_right ∙ ap (slot_fields area.magic g) (sym size)) (seal_same ∙ tested ∙ message)
       (subst (λ (k : ℕ). take k (drop 64 whole) ≡ body) (sym size) body_same) in
-      is-slot_of area.magic place whole g body eight (omega (arith, size, head.fits))
-      (record { from = head.from; until = head.until; in_place = head.in_place; rest = drop (64 + length body) whole; spelled = spelled })
+      is-sealed_of area.magic whole g body eight (omega (arith, size, head.fits))
+      (record { from = head.from; until = head.until; rest = drop (64 + length body) whole; spelled = spelled })
 
-  wrong : has_seal part n ≡ false → slot_of area.magic place whole ≡ None
-  wrong bad = elim (none_or_some (slot_of area.magic place whole)) [
+  wrong : has_seal part n ≡ false → sealed_of area.magic whole ≡ None
+  wrong bad = elim (none_or_some (sealed_of area.magic whole)) [
     | inl nothing ↦ nothing
-    | inr found ↦ absurd (not_valid found.0 (slot_of-is area.magic place whole found.0 found.1))
+    | inr found ↦ absurd (not_valid found.0 (sealed_of-is area.magic whole found.0 found.1))
   ]
     where
-      not_valid : (x : ℕ × List ℕ) → IsSlot area.magic place whole x.0 x.1 → ⊥
+      not_valid : (x : ℕ × List ℕ) → IsSealed area.magic whole x.0 x.1 → ⊥
       not_valid x slot =
           let fields : take 32 whole ≡ slot_fields area.magic x.0 (length x.1) = ap (take 32) slot.spelled ∙ fields_of area.magic x.1 slot.rest x.0 eight in
           let count : length x.1 ≡ n =
@@ -133,7 +133,7 @@ module _ (area : Area) (place : ℕ) (f : Content) (g n : ℕ) (eight : length a
           ∙ (λ i. digest ((sym fields ∙ fields_same) i ++ inner i)) in
           true≢false (sym ((bytes_eq-Decides (take 32 (drop 32 part)) (digest (take 32 part ++ body))).1 sealed) ∙ bad)
 
-  pub sealed_is : sealed_in part g n ≡ read_slot area place f
+  pub sealed_is : sealed_in part g n ≡ read_any area place f
   sealed_is = elim (cases_Bool (has_seal part n)) [
     | inl good ↦ ap (λ (b : Bool). cond b (Some (g, body)) None) good ∙ sym (right good)
     | inr bad ↦ ap (λ (b : Bool). cond b (Some (g, body)) None) bad ∙ sym (wrong bad)

@@ -2,7 +2,7 @@
 use Rattle.std.specs.Prelude.{◌≡◌, ◌≢◌, ℕ, ◌+◌, ◌*◌, ◌%◌, ◌^◌, ◌<◌, ◌≤◌, Bool, nat_lt, nat_eq, List, ◌++◌, take, drop, Some, None, if◌then◌else◌}
 use Rattle.std.specs.Str.{bytes_eq}
 use Rattle.st_fields.specs.Fields.{digest}
-use Rattle.st_fields.specs.Slot.{Found, slot_fields, slot_of}
+use Rattle.st_fields.specs.Slot.{Found, slot_fields, sealed_of}
 use Rattle.st_rack.specs.Story.{Content}
 use Rattle.st_rack.specs.Device.{Path, State, cells}
 use Rattle.st_rack.specs.Calls.{Devices, Rose}
@@ -13,9 +13,18 @@ use Rattle.st_slots.specs.declared.spot.Area.{Area}
 abbrev pub bytes_at : Area → ℕ → Content → List ℕ
 bytes_at area place device = cells device (place_at area place) (512 * area.slot)
 
--- what the slot in a place reads as
+-- what the slot in a place reads as, whatever its generation
+abbrev pub read_any : Area → ℕ → Content → Found
+read_any area place device = sealed_of area.magic (bytes_at area place device)
+
+-- what was found, if this is the place of its generation
+abbrev pub of_place : ℕ → Found → Found
+of_place place None = None
+of_place place (Some x) = if nat_eq (x.0 % 2) place then Some x else None
+
+-- what the slot in a place reads as, where generation g stands in place g mod 2
 abbrev pub read_slot : Area → ℕ → Content → Found
-read_slot area place device = slot_of area.magic place (bytes_at area place device)
+read_slot area place device = of_place place (read_any area place device)
 
 -- the one of greater generation
 abbrev pub newer : Found → Found → Found
@@ -27,21 +36,11 @@ newer (Some a) (Some b) = if nat_lt a.0 b.0 then Some b else Some a
 abbrev pub newest_in : Area → Content → Found
 newest_in area device = newer (read_slot area 0 device) (read_slot area 1 device)
 
--- what was found, if it is of this generation
-abbrev pub of_generation : ℕ → Found → Found
-of_generation generation None = None
-of_generation generation (Some x) = if nat_eq x.0 generation then Some x else None
-
--- the slot of a generation, if it is valid with this generation
-abbrev pub found_at : Area → ℕ → Content → Found
-found_at area generation device = of_generation generation (read_slot area (generation % 2) device)
-
 -- A slot whose first bytes these are has a head for this generation and a body of so many bytes, sound but for its seal, and the
 -- body fits the slot.
-pub record IsHead (area : Area) (place : ℕ) (first : List ℕ) (generation count : ℕ) : Type 0 where
+pub record IsHead (area : Area) (first : List ℕ) (generation count : ℕ) : Type 0 where
   pub from : 1 ≤ generation
   pub until : generation ≤ 2 ^ 48
-  pub in_place : generation % 2 ≡ place
   pub fits : 64 + count ≤ 512 * area.slot
   pub spelled : take 32 first ≡ slot_fields area.magic generation count
 
