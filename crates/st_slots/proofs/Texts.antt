@@ -9,7 +9,7 @@ use Rattle.st_rack.specs.Readers.{Local}
 use Rattle.st_rack.proofs.Cells.{cells_same, cells-add, length-cells}
 use Rattle.st_slots.specs.declared.spot.Area.{Area}
 use Rattle.st_slots.specs.Places.{place_at}
-use Rattle.st_slots.specs.Reading.{bytes_at, read_any, read_slot, of_place}
+use Rattle.st_slots.specs.Reading.{bytes_at, read_any}
 use Rattle.st_slots.specs.Writing.{deciding}
 
 pub length-slot_bytes : (magic body : List ℕ) (g : ℕ) → length magic ≡ 8 → length (slot_bytes magic g body) ≡ padded (64 + length body)

@@ -5,7 +5,8 @@ use Rattle.st_fields.specs.Fields.{digest}
 use Rattle.st_fields.specs.Slot.{Found, slot_fields, sealed_of}
 use Rattle.st_rack.specs.Story.{Content}
 use Rattle.st_rack.specs.Device.{Path, State, cells}
-use Rattle.st_rack.specs.Calls.{Devices, Rose}
+use Rattle.st_units.specs.Causes.{Rose}
+use Rattle.st_rack.specs.Calls.{Devices}
 use Rattle.st_slots.specs.Places.{place_at}
 use Rattle.st_slots.specs.declared.spot.Area.{Area}
 

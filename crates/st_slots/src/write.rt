@@ -1,12 +1,14 @@
 ghost use Rattle.std.specs.Prelude.{◌≡◌, ◌⊎◌, ◌+◌, ◌*◌, ◌%◌, ◌≤◌, ◌<◌, ◌^◌, ℕ, length, Some, OnOk};
 ghost use Rattle.st_fields.specs.Slot.{slot_bytes, padded};
-ghost use Rattle.st_rack.specs.Calls.{HasCause, IsWithin};
+ghost use Rattle.st_units.specs.Causes.{HasCause};
+ghost use Rattle.st_rack.specs.Calls.{IsWithin};
+ghost use Rattle.st_rack.specs.Device.{Leaves};
 ghost use Rattle.st_rack.specs.Story.{Content};
 ghost use Rattle.st_rack.specs.Moments.{LeftSince, Goes, Keeps, OnDevice};
 ghost use Rattle.st_rack.specs.Steps.{Rewriting, Rewritten, LeavesOutside};
 ghost use Rattle.st_slots.specs.Places.{place_at, slot_at, Lies};
 ghost use Rattle.st_slots.specs.Reading.{newest_in, read_any, read_slot};
-ghost use Rattle.st_slots.specs.Writing.{Leaves, LeavesFor, MeantAsHeld, Precedes, Steady, Torn};
+ghost use Rattle.st_slots.specs.Writing.{LeavesFor, MeantAsHeld, Precedes, Steady, Torn};
 
 use crate::head::fill;
 use crate::spot::Area;
@@ -81,7 +83,7 @@ pub fn write_at<R: Rack>(
     // Whenever the call is cut off, the slot reads as nothing, as before or as what is written, whatever the other slot holds.
     ensures torn { MeantAsHeld (read_any area.now slot) (R.state_at rack.old (R.moment rack.old) dev.now)
         → Keeps R.moment R.state_at (λ s. (f : Content) → LeavesFor (read_any area.now slot) (s dev.now) f
-            → Torn (read_any area.now slot (R.state_at rack.old (R.moment rack.old) dev.now).holds) (Some (generation, body.now)) (read_any area.now slot f)) rack.old rack.new }
+        → Torn (read_any area.now slot (R.state_at rack.old (R.moment rack.old) dev.now).holds) (Some (generation, body.now)) (read_any area.now slot f)) rack.old rack.new }
 
     // After an `Ok` it reads as what was written, whatever a crash leaves.
     ensures written { OnOk result ((f : Content) → Leaves (R.state_at rack.new (R.moment rack.new) dev.now) f → read_any area.now slot f ≡ Some (generation, body.now)) }
@@ -125,7 +127,7 @@ pub fn write_next<R: Rack>(
     // Whenever the call is cut off, the slot reads as nothing, as before or as what is written, whatever the other slot holds.
     ensures torn { MeantAsHeld (read_slot area.now (generation % 2)) (R.state_at rack.old (R.moment rack.old) dev.now)
         → Keeps R.moment R.state_at (λ s. (f : Content) → LeavesFor (read_slot area.now (generation % 2)) (s dev.now) f
-            → Torn (read_slot area.now (generation % 2) (R.state_at rack.old (R.moment rack.old) dev.now).holds) (Some (generation, body.now)) (read_slot area.now (generation % 2) f)) rack.old rack.new }
+        → Torn (read_slot area.now (generation % 2) (R.state_at rack.old (R.moment rack.old) dev.now).holds) (Some (generation, body.now)) (read_slot area.now (generation % 2) f)) rack.old rack.new }
 
     // After an `Ok` it reads as what was written, whatever a crash leaves.
     ensures written { OnOk result ((f : Content) → Leaves (R.state_at rack.new (R.moment rack.new) dev.now) f → read_slot area.now (generation % 2) f ≡ Some (generation, body.now)) }
@@ -134,7 +136,7 @@ pub fn write_next<R: Rack>(
     ensures old_or_new { Steady area.now 0 (R.state_at rack.old (R.moment rack.old) dev.now) → Steady area.now 1 (R.state_at rack.old (R.moment rack.old) dev.now)
         → Precedes (newest_in area.now (R.state_at rack.old (R.moment rack.old) dev.now).holds) generation
         → Keeps R.moment R.state_at (λ s. (f : Content) → LeavesFor (read_slot area.now (generation % 2)) (s dev.now) f
-            → (newest_in area.now f ≡ newest_in area.now (R.state_at rack.old (R.moment rack.old) dev.now).holds) ⊎ (newest_in area.now f ≡ Some (generation, body.now))) rack.old rack.new }
+        → (newest_in area.now f ≡ newest_in area.now (R.state_at rack.old (R.moment rack.old) dev.now).holds) ⊎ (newest_in area.now f ≡ Some (generation, body.now))) rack.old rack.new }
 
     // After an `Ok` it is the new one.
     ensures new { OnOk result (Steady area.now 0 (R.state_at rack.old (R.moment rack.old) dev.now) → Steady area.now 1 (R.state_at rack.old (R.moment rack.old) dev.now)

@@ -3,7 +3,7 @@ use st_fields::put;
 use st_header::{header_bytes, read_header};
 use st_memrack::NoFaultRack;
 use st_rack::Rack;
-use st_slots::{Area, at_generation, newest, write_next};
+use st_slots::{Area, newest, read_at, write_next};
 use st_units::{Bytes, DevPath, PoolSerial};
 use std::alloc::Global;
 use std::test::Fail;
@@ -97,13 +97,13 @@ fn found_at(
     alloc: Global,
     rack: &mut NoFaultRack,
     dev: &DevPath,
-    generation: u64,
+    slot: usize,
 ) -> Result<Option<(u64, Bytes)>, Fail> {
     let area = area();
-    if !area.lies_on(rack, dev) {
-        return Err("no such device".into());
+    if !area.lies_on(rack, dev) || slot > 1 {
+        return Err("no such slot".into());
     }
-    Ok(at_generation(alloc, rack, dev, &area, generation)?)
+    Ok(read_at(alloc, rack, dev, &area, slot)?)
 }
 
 fn is_record(found: &Option<(u64, Bytes)>, want: Option<(u64, &[u8])>) -> bool {
@@ -141,14 +141,15 @@ fn the_newest_record_is_found(rt: HostRuntime) -> Result<(), Fail> {
             is_record(&found(alloc, &mut rack, &dev)?, want),
             "the newest at {generation}"
         );
-        for other in 0..generation + 3 {
-            let there = found_at(alloc, &mut rack, &dev, other)?.map(|record| record.0);
-            let is_there = other == generation || other + 1 == generation && other > 0;
-            assert_eq!(rt;
-                there,
-                if is_there { Some(other) } else { None },
-                "{other} at {generation}"
-            );
+        for slot in 0..2 {
+            let there = found_at(alloc, &mut rack, &dev, slot)?.map(|record| record.0);
+            let in_slot = if generation % 2 == slot as u64 {
+                generation
+            } else {
+                generation - 1
+            };
+            let want = if in_slot == 0 { None } else { Some(in_slot) };
+            assert_eq!(rt; there, want, "slot {slot} at {generation}");
         }
     }
     Ok(())

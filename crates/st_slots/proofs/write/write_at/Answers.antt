@@ -1,4 +1,4 @@
-use Rattle.std.proofs.Common.{◌≡◌, ℕ, ◌+◌, ◌*◌, ◌^◌, ◌≤◌, List, length, Some, arith}
+use Rattle.std.proofs.Common.{◌≡◌, ℕ, ◌+◌, ◌^◌, ◌≤◌, List, length, Some, arith}
 use Rattle.st_fields.specs.Slot.{slot_bytes, padded}
 use Rattle.st_rack.specs.Story.{Content}
 use Rattle.st_rack.specs.Device.{cells}
@@ -27,7 +27,8 @@ returns-clause-torn g c =
     let generation = c.args.generation in
     let body = c.args.body.now in
     let small : area.slot ≤ 2 ^ 32 = omega (arith, c.requires.lies.small) in
-    let there = λ f is. reads_text area slot generation body f c.write_sealed.ensures.eight c.requires.first c.requires.last small c.requires.fits is in
+    let there : (f : Content) → cells f (place_at area slot) (length (slot_bytes area.magic generation body)) ≡ slot_bytes area.magic generation body → read_any area slot f ≡ Some (generation, body) =
+    λ f is. reads_text area slot generation body f c.write_sealed.ensures.eight c.requires.first c.requires.last small c.requires.fits is in
     λ meant. torn_each (read_any area slot) (place_at area slot) (slot_bytes area.magic generation body) generation body there g.R.Rack.moment g.R.Rack.state_at c.args.dev.now c.args.rack.now c.write_sealed.new.rack meant c.write_sealed.ensures.time
 
 pub returns-clause-written : goal.returns-clause-written
@@ -39,7 +40,8 @@ returns-clause-written g c =
     let moment = g.R.Rack.moment in
     let dev = c.args.dev.now in
     let small : area.slot ≤ 2 ^ 32 = omega (arith, c.requires.lies.small) in
-    let there = λ f is. reads_text area slot generation body f c.write_sealed.ensures.eight c.requires.first c.requires.last small c.requires.fits is in
+    let there : (f : Content) → cells f (place_at area slot) (length (slot_bytes area.magic generation body)) ≡ slot_bytes area.magic generation body → read_any area slot f ≡ Some (generation, body) =
+    λ f is. reads_text area slot generation body f c.write_sealed.ensures.eight c.requires.first c.requires.last small c.requires.fits is in
     on_ok c.write_sealed.result _ _
     (λ done. now_there (read_any area slot) (place_at area slot) (slot_bytes area.magic generation body) generation body there
     (g.R.Rack.state_at c.args.rack.now (moment c.args.rack.now) dev) (g.R.Rack.state_at c.write_sealed.new.rack (moment c.write_sealed.new.rack) dev) done.here) c.write_sealed.ensures.done

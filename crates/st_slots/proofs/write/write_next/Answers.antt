@@ -1,5 +1,5 @@
 use Rattle.std.proofs.Common.{◌≡◌, ◌⊎◌, ℕ, ◌+◌, ◌*◌, ◌%◌, ◌^◌, ◌≤◌, List, length, Some, sym, subst, arith}
-use Rattle.st_fields.specs.Slot.{slot_bytes, padded}
+use Rattle.st_fields.specs.Slot.{slot_bytes}
 use Rattle.st_rack.specs.Story.{Content}
 use Rattle.st_rack.specs.Device.{State}
 use Rattle.st_rack.specs.Moments.{OnDevice}
