@@ -2,12 +2,10 @@ ghost use Rattle.std.specs.Prelude.{◌≡◌, ℕ, length, take, MatchOption};
 ghost use Rattle.st_header.specs.Header.{header_text, copy_of, header_of, IsHeader};
 
 use st_fields::{put, put_u64, seal, u64_at};
+use st_limits::MIN_DEVICE_SECTORS;
 use st_units::PoolSerial;
 
 const MAGIC: [u8; 8] = *b"STRSHDR1";
-
-/// A smaller device has no header.
-const SMALLEST: u64 = 8_192;
 
 /// A copy of the header: one sector, with the pool's serial and the device's sectors.
 pub fn header_bytes(serial: PoolSerial, sectors: u64) -> [u8; 512]
@@ -31,7 +29,7 @@ pub fn read_header(area: &[u8], sectors: u64) -> Option<PoolSerial>
     ensures value { result ≡ header_of sectors area.now }
     ensures grammar { MatchOption result ((n : ℕ) → ¬ IsHeader sectors area.now n) (IsHeader sectors area.now) }
 {
-    if sectors < SMALLEST {
+    if sectors < MIN_DEVICE_SECTORS {
         return None;
     }
     match read_copy(&area[512..1_024], sectors) {
