@@ -6,7 +6,7 @@ use Rattle.st_units.specs.declared.rows.DevRow.{DevRow}
 use Rattle.st_units.specs.declared.rows.Segment.{Segment}
 use Rattle.st_recrows.specs.declared.fault.RecFault.{RecFault}
 use Rattle.st_recrows.specs.declared.fault.RecFault.TheVariants.{NotARecord, OutOfMemory}
-use Rattle.st_recrows.specs.Rows.{Reads, Spells, AllFit, rows_text}
+use Rattle.st_recrows.specs.Rows.{Reads, Spells, Gives, AllFit, rows_text}
 use Rattle.st_recrows.specs.PoolRows.{DevFits, dev_text, dev_fields, SegmentFits, segment_text, segment_fields}
 use Rattle.st_recrows.specs.PoolLaws.{dev_width, dev_reads_back, segment_width, segment_reads_back}
 use Rattle.st_recrows.proofs.RowsLemmas.{length-rows_text, same_row, same_rows, same_front}
@@ -125,3 +125,9 @@ pub invalid : (bytes : List ℕ) (rec : PoolRec) → Spells RecFits record_text 
 invalid bytes rec is untrue other os =
     let same = same_record rec other [] [] is.fit os.fit.fits (ap (λ (l : List ℕ). l ++ []) (sym is.spelled ∙ os.spelled)) in
     true≢false (sym os.fit.valid ∙ ap is_record (sym same.0) ∙ untrue)
+
+-- bytes spell one record, so that reading them gives it
+pub read_again : (rec : PoolRec) (bytes : List ℕ) (read : Result PoolRec RecFault) → Spells IsPoolRec record_text bytes rec → Reads (Spells IsPoolRec record_text bytes) read → Gives rec read
+read_again rec bytes (Ok found) is given = (same_record found rec [] [] given.fit.fits is.fit.fits (ap (λ (l : List ℕ). l ++ []) (sym given.spelled ∙ is.spelled))).0
+read_again rec bytes (Err NotARecord) is none = none rec is
+read_again rec bytes (Err OutOfMemory) is given = tt

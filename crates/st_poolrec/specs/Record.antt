@@ -29,7 +29,7 @@ pub record RecFits (rec : PoolRec) : Type 0 where
   pub devs : AllFit DevFits rec.devs
   pub segments : AllFit SegmentFits rec.segments
 
--- a limit of 0 to 128, 1 to 16 devices, at most 16 segments, and the conditions on the rows
+-- a limit on filesystems, 1 to 16 devices, at most 16 segments, and the conditions on the rows
 abbrev pub is_record : PoolRec → Bool
 is_record rec = nat_le rec.fs_limit (most_filesystems rec.version2) && (nat_le 1 (length rec.devs) && (nat_le (length rec.devs) 16 && (nat_le (length rec.segments) 16 && rows_fit rec.devs rec.segments)))
 

@@ -22,6 +22,7 @@ pub struct PoolHead {
 }
 
 impl Row for PoolHead {
+    ghost use Rattle.st_recrows.specs.Rows.{NeedsNothing};
     ghost use Rattle.st_poolrec.specs.Head.{HeadFits, head_text, head_fields};
     ghost use Rattle.st_poolrec.specs.HeadLaws.{head_width, head_reads_back, positive_88};
 
@@ -30,6 +31,8 @@ impl Row for PoolHead {
     ghost WIDTH = { 88 };
 
     ghost fits = { HeadFits };
+
+    ghost needs = { NeedsNothing };
 
     ghost text = { head_text };
 
@@ -71,7 +74,7 @@ impl Row for PoolHead {
 
 impl PoolHead {
     ghost use Rattle.std.specs.Prelude.{◌≡◌};
-    ghost use Rattle.st_poolrec.specs.Head.{flags, head_text};
+    ghost use Rattle.st_poolrec.specs.Head.{HeadFits, flags, head_text};
 
     fn flags(&self) -> u32
         ensures { result ≡ flags self.now.gone self.now.overprovisioning self.now.version2 }
@@ -83,16 +86,19 @@ impl PoolHead {
     }
 
     fn bytes(&self) -> [u8; 88]
-        ensures { result ≡ head_text self.now }
+        ensures fits { HeadFits self.now }
+        ensures text { result ≡ head_text self.now }
     {
+        let (serial, fs_limit) = (self.serial, self.fs_limit);
+        let (devs, segments) = (self.devs, self.segments);
         let name = self.name.bytes();
         let mut out = [0; HEAD_WIDTH];
-        put_u64(&mut out, 0, self.serial);
+        put_u64(&mut out, 0, serial);
         put_u32(&mut out, 8, self.flags());
-        put_u32(&mut out, 12, self.fs_limit);
+        put_u32(&mut out, 12, fs_limit);
         put_u16(&mut out, 16, name.len() as u16);
-        put_u16(&mut out, 18, self.devs);
-        put_u16(&mut out, 20, self.segments);
+        put_u16(&mut out, 18, devs);
+        put_u16(&mut out, 20, segments);
         put_u16(&mut out, 22, 0);
         put_text(&mut out, 24, name);
         out

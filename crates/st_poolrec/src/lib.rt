@@ -10,5 +10,5 @@ pub mod laws;
 mod record;
 
 pub use conditions::is_record;
-pub use record::{PoolRec, decode, encode};
+pub use record::{PoolRec, decode, encode, encode_v1};
 pub use st_recrows::RecFault;

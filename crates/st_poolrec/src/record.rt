@@ -1,4 +1,4 @@
-ghost use Rattle.std.specs.Prelude.{◌≡◌, ℕ, true, IfOk};
+ghost use Rattle.std.specs.Prelude.{◌≡◌, ℕ, true, false, IfOk};
 ghost use Rattle.st_recrows.specs.Rows.{Reads, Spells};
 ghost use Rattle.st_poolrec.specs.Head.{HeadFits};
 ghost use Rattle.st_poolrec.specs.Record.{RecFits, IsPoolRec, is_record, record_text};
@@ -18,9 +18,9 @@ pub struct PoolRec {
     /// The pool was destroyed.
     pub gone: bool,
     pub overprovisioning: bool,
-    /// The record is of version 2: a limit of up to 256.
+    /// The record is of version 2, which each commit writes; else of version 1.
     pub version2: bool,
-    /// How many filesystems the pool may have, 0 to 128.
+    /// How many filesystems the pool may have: at most 128, or 256 with version 2.
     pub fs_limit: u32,
     pub name: Name,
     /// The devices in order of arrival; the first is a data device.
@@ -33,8 +33,9 @@ pub struct PoolRec {
 #[tactic(auto, using(crate::proofs::Counts::devs_few, crate::proofs::Counts::segments_few))]
 pub fn encode(alloc: Global, rec: &PoolRec) -> Result<Bytes, NoMemory>
     requires { is_record rec.now ≡ true }
-    ensures { IfOk result (λ bytes. bytes ≡ record_text rec.now) }
+    ensures { IfOk result (λ bytes. Spells IsPoolRec record_text bytes rec.now) }
 {
+    let (devs, segments) = (rec.devs.items(), rec.segments.items());
     let head = PoolHead {
         serial: rec.serial,
         gone: rec.gone,
@@ -42,14 +43,24 @@ pub fn encode(alloc: Global, rec: &PoolRec) -> Result<Bytes, NoMemory>
         version2: rec.version2,
         fs_limit: rec.fs_limit,
         name: rec.name.copy()?,
-        devs: rec.devs.len() as u16,
-        segments: rec.segments.len() as u16,
+        devs: devs.len() as u16,
+        segments: segments.len() as u16,
     };
-    let mut out = Vec::new(alloc);
+    let rows_len = devs.len() * DEV_WIDTH + segments.len() * SEGMENT_WIDTH;
+    let mut out = Vec::with_capacity(alloc, HEAD_WIDTH + rows_len)?;
     head.put(&mut out)?;
-    put_rows(&mut out, rec.devs.items())?;
-    put_rows(&mut out, rec.segments.items())?;
+    put_rows(&mut out, devs)?;
+    put_rows(&mut out, segments)?;
     Ok(Bytes::of(out))
+}
+
+/// The spelling of a record of version 1.
+pub fn encode_v1(alloc: Global, rec: &PoolRec) -> Result<Bytes, NoMemory>
+    requires kept { is_record rec.now ≡ true }
+    requires version { rec.now.version2 ≡ false }
+    ensures { IfOk result (λ bytes. Spells IsPoolRec record_text bytes rec.now) }
+{
+    encode(alloc, rec)
 }
 
 /// The record whose spelling the bytes are. `NotARecord` comes exactly where there is none.

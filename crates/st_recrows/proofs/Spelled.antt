@@ -1,11 +1,12 @@
 -- Rows that are put together front to back are the spellings of their values.
-use Rattle.std.proofs.Common.{◌≡◌, ℕ, Bool, List, [], ◌∷◌, ◌++◌, length, take, replicate, unwrap_or, ap, ◌∙◌, append_assoc}
+use Rattle.std.proofs.Common.{◌≡◌, ◌<◌, ◌^◌, ℕ, Option, Some, None, List, [], ◌∷◌, ◌++◌, length, take, replicate, unwrap_or, ap, ◌∙◌, append_assoc}
+use Rattle.std.specs.Prelude.{IfSome}
 use Rattle.st_units.specs.declared.rows.DevRow.{DevRow}
 use Rattle.st_units.specs.declared.rows.FsRow.{FsRow}
 use Rattle.st_fields.specs.Fields.{spelling}
 use Rattle.st_recrows.specs.Texts.{filled}
 use Rattle.st_recrows.specs.PoolRows.{tier_code, dev_text}
-use Rattle.st_recrows.specs.FsRows.{fs_text, merge_code}
+use Rattle.st_recrows.specs.FsRows.{IsPositive, fs_text, merge_code}
 use Rattle.st_recrows.proofs.RowsLemmas.{all_of_it}
 
 pub dev_spelled : (d : DevRow) (w1 w2 w3 w4 path : List ℕ) (code : ℕ) → path ≡ d.path → code ≡ tier_code d.tier → length w4 ≡ 80
@@ -36,3 +37,8 @@ fs_spelled r w1 w2 w3 w4 w5 w6 w7 w8 name zeros origin limit code is_name is_zer
     let f8 : take 160 w8 ≡ ((numbers ++ filled name) ++ (code ∷ [])) ++ zeros = p8 ∙ ap (λ (l : List ℕ). l ++ zeros) f7 in
     all_of_it 160 w8 (numbers ++ (filled name ++ (code ∷ zeros))) size (f8 ∙ append_assoc (numbers ++ filled name) (code ∷ []) zeros ∙ append_assoc numbers (filled name) (code ∷ zeros))
     ∙ (λ i. spelling 8 r.serial ++ (spelling 8 (is_origin i) ++ (spelling 8 r.size ++ (spelling 8 (is_limit i) ++ (spelling 2 (length (is_name i)) ++ (filled (is_name i) ++ (is_code i ∷ is_zeros i)))))))
+
+-- numbers that aren't 0 and fit the type
+pub positive_of : (number : Option ℕ) → IfSome number (λ n. 0 < n) → IfSome number (λ n. n < 2 ^ 64) → IfSome number IsPositive
+positive_of None above below = tt
+positive_of (Some n) above below = record { above = above; below = below }

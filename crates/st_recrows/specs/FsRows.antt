@@ -28,6 +28,11 @@ pub record FsFits (r : FsRow) : Type 0 where
   pub limit : IfSome r.limit IsPositive
   pub name : is_name r.name ≡ true
 
+-- an origin or a limit of 0 would be read as none
+pub record HasNoZero (r : FsRow) : Type 0 where
+  pub origin : IfSome r.origin (λ n. 0 < n)
+  pub limit : IfSome r.limit (λ n. 0 < n)
+
 -- 0 stands for none
 abbrev pub some_number : ℕ → Option ℕ
 some_number n = if n == 0 then None else Some n

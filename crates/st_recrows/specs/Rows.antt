@@ -10,6 +10,12 @@ Reads P (Ok value) = P value
 Reads {T} P (Err NotARecord) = (value : T) → P value → ⊥
 Reads P (Err OutOfMemory) = Unit {0}
 
+-- Reading gave this value, or found no memory.
+abbrev pub Gives : {T : Type 0} → T → Result T RecFault → Type 0
+Gives value (Ok found) = found ≡ value
+Gives value (Err NotARecord) = ⊥
+Gives value (Err OutOfMemory) = Unit {0}
+
 -- Reading gave this value, which fits, or found that it doesn't fit.
 abbrev pub ReadsFields : {T : Type 0} → (T → Type 0) → T → Result T RecFault → Type 0
 ReadsFields fits value (Ok found) = (found ≡ value) × fits found
@@ -24,6 +30,10 @@ pub record Spells {T : Type 0} (fits : T → Type 0) (text : T → List ℕ) (by
 -- each row fits
 abbrev pub AllFit : {T : Type 0} → (T → Type 0) → List T → Type 0
 AllFit fits rows = AllByRecursion fits rows
+
+-- the type of such a value tells that it fits
+abbrev pub NeedsNothing : {T : Type 0} → T → Type 0
+NeedsNothing row = Unit {0}
 
 -- rows one after the other
 abbrev pub rows_text : {T : Type 0} → (T → List ℕ) → List T → List ℕ

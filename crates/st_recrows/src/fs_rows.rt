@@ -1,5 +1,5 @@
-ghost use Rattle.std.specs.Prelude.{◌≡◌, ℕ, List};
-ghost use Rattle.st_recrows.specs.FsRows.{FsFits, fs_text, fs_fields, some_number, merge_code};
+ghost use Rattle.std.specs.Prelude.{◌≡◌, ◌<◌, ◌^◌, ℕ, List, IfSome, unwrap_or};
+ghost use Rattle.st_recrows.specs.FsRows.{FsFits, HasNoZero, fs_text, fs_fields, some_number, merge_code};
 ghost use Rattle.st_recrows.specs.FsLaws.{fs_width, fs_reads_back, positive_160};
 
 use crate::fault::RecFault;
@@ -19,6 +19,16 @@ fn number_of(n: u64) -> Option<u64>
     if n == 0 { None } else { Some(n) }
 }
 
+fn or_zero(number: Option<u64>) -> u64
+    ensures value { result ≡ unwrap_or number 0 }
+    ensures below { IfSome number (λ n. n < 2 ^ 64) }
+{
+    match number {
+        None => 0,
+        Some(n) => n,
+    }
+}
+
 fn code_of(merge: bool) -> u8
     ensures { result ≡ merge_code merge }
 {
@@ -26,14 +36,16 @@ fn code_of(merge: bool) -> u8
 }
 
 fn fs_bytes(row: &FsRow) -> [u8; 160]
-    ensures { result ≡ fs_text row.now }
+    ensures fits { HasNoZero row.now → FsFits row.now }
+    ensures text { result ≡ fs_text row.now }
 {
+    let (serial, size) = (row.serial, row.size);
     let name = row.name.bytes();
     let mut out = [0; FS_WIDTH];
-    put_u64(&mut out, 0, row.serial);
-    put_u64(&mut out, 8, row.origin.unwrap_or(0));
-    put_u64(&mut out, 16, row.size);
-    put_u64(&mut out, 24, row.limit.unwrap_or(0));
+    put_u64(&mut out, 0, serial);
+    put_u64(&mut out, 8, or_zero(row.origin));
+    put_u64(&mut out, 16, size);
+    put_u64(&mut out, 24, or_zero(row.limit));
     put_u16(&mut out, 32, name.len() as u16);
     put_text(&mut out, 34, name);
     put(&mut out, 98, &[code_of(row.merge)]);
@@ -47,6 +59,8 @@ impl Row for FsRow {
     ghost WIDTH = { 160 };
 
     ghost fits = { FsFits };
+
+    ghost needs = { HasNoZero };
 
     ghost text = { fs_text };
 

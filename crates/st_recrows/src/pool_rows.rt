@@ -1,4 +1,5 @@
 ghost use Rattle.std.specs.Prelude.{◌≡◌, ℕ, List};
+ghost use Rattle.st_recrows.specs.Rows.{NeedsNothing};
 ghost use Rattle.st_recrows.specs.PoolRows.{DevFits, dev_text, dev_fields, tier_code, tier_in, SegmentFits, segment_text, segment_fields};
 ghost use Rattle.st_recrows.specs.PoolLaws.{dev_width, dev_reads_back, segment_width, segment_reads_back, positive_12, positive_80};
 
@@ -39,14 +40,16 @@ fn tier_of(code: u8) -> Tier
 }
 
 fn dev_bytes(dev: &DevRow) -> [u8; 80]
-    ensures { result ≡ dev_text dev.now }
+    ensures fits { DevFits dev.now }
+    ensures text { result ≡ dev_text dev.now }
 {
+    let sectors = dev.sectors;
     let path = dev.path.bytes();
     let mut out = [0; DEV_WIDTH];
     put_u16(&mut out, 0, path.len() as u16);
     put_text(&mut out, 2, path);
     put(&mut out, 66, &[code_of(dev.tier), 0, 0, 0, 0, 0]);
-    put_u64(&mut out, 72, dev.sectors);
+    put_u64(&mut out, 72, sectors);
     out
 }
 
@@ -56,6 +59,8 @@ impl Row for DevRow {
     ghost WIDTH = { 80 };
 
     ghost fits = { DevFits };
+
+    ghost needs = { NeedsNothing };
 
     ghost text = { dev_text };
 
@@ -90,13 +95,15 @@ impl Row for DevRow {
 }
 
 fn segment_bytes(segment: &Segment) -> [u8; 12]
-    ensures { result ≡ segment_text segment.now }
+    ensures fits { SegmentFits segment.now }
+    ensures text { result ≡ segment_text segment.now }
 {
+    let (dev, first, blocks) = (segment.dev, segment.first, segment.blocks);
     let mut out = [0; SEGMENT_WIDTH];
-    put_u16(&mut out, 0, segment.dev);
+    put_u16(&mut out, 0, dev);
     put_u16(&mut out, 2, 0);
-    put_u32(&mut out, 4, segment.first);
-    put_u32(&mut out, 8, segment.blocks);
+    put_u32(&mut out, 4, first);
+    put_u32(&mut out, 8, blocks);
     out
 }
 
@@ -106,6 +113,8 @@ impl Row for Segment {
     ghost WIDTH = { 12 };
 
     ghost fits = { SegmentFits };
+
+    ghost needs = { NeedsNothing };
 
     ghost text = { segment_text };
 

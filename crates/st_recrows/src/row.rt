@@ -15,6 +15,9 @@ pub trait Row: Sized {
     /// Which values have a spelling.
     ghost fits: { Self → Type 0 };
 
+    /// What a value needs for that, beside what its type tells.
+    ghost needs: { Self → Type 0 };
+
     /// The one spelling of a value.
     ghost text: { Self → List ℕ };
 
@@ -23,6 +26,8 @@ pub trait Row: Sized {
 
     /// Puts the spelling at the end.
     fn put(&self, out: &mut Vec<u8>) -> Result<(), NoMemory>
+        requires { needs self.now }
+        ensures fits { fits self.now }
         ensures ok { OnOk result (out.new.items ≡ out.old.items ++ text self.now) };
 
     /// What stands in the fields. It isn't tested that nothing else stands there.
@@ -43,6 +48,8 @@ pub trait Row: Sized {
 
 /// Puts the spellings of the rows at the end, in order.
 pub fn put_rows<R: Row>(out: &mut Vec<u8>, rows: &[R]) -> Result<(), NoMemory>
+    requires { AllFit R.needs rows.now }
+    ensures fit { OnOk result (AllFit R.fits rows.now) }
     ensures ok { OnOk result (out.new.items ≡ out.old.items ++ rows_text R.text rows.now) }
 {
     for row in rows {
