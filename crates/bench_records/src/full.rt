@@ -1,18 +1,16 @@
 // Flex records as full as they can be.
-ghost use Rattle.std.specs.Prelude.{◌≡◌, ◌≤◌, IfSome};
+ghost use Rattle.std.specs.Prelude.{◌≤◌, IfSome};
 ghost use Rattle.st_flexrec.specs.Conditions.{KeepsConditions};
-ghost use Rattle.st_flexrec.specs.Record.{record_text};
 
 use st_flexrec::{
     CellRow, CellRows, FlexRec, FsRows, MapRow, MapRows, decode, encode, keeps_conditions,
 };
+use st_limits::BLOCK_SECTORS;
 use st_units::{Bytes, FsRow, ItemList, Name};
 use std::alloc::Global;
 
 /// How many blocks each filesystem has, all of them mapped.
 const BLOCKS: u32 = 256;
-
-const SECTORS_OF_BLOCK: u64 = 128;
 
 /// A generation late enough for every such record.
 const GENERATION: u64 = 1 << 48;
@@ -28,9 +26,10 @@ fn add_filesystem(alloc: Global, rows: &mut FsRows, fs: u16) -> Option<()> {
         FsRow {
             serial: u64::from(fs) + 1,
             name: Name::read(alloc, &name).ok()?,
-            size: u64::from(BLOCKS) * SECTORS_OF_BLOCK,
+            size: u64::from(BLOCKS) * BLOCK_SECTORS,
             limit: None,
             origin: None,
+            merge: false,
         },
     )
 }
@@ -56,6 +55,7 @@ pub fn record(alloc: Global, filesystems: u16) -> Option<FlexRec>
     ensures { IfSome result (λ rec. KeepsConditions rec) }
 {
     let mut rec = FlexRec {
+        version2: true,
         serial: 1,
         next_fs: u64::from(filesystems) + 1,
         next_cell: u64::from(filesystems) * u64::from(BLOCKS) + 1,
@@ -77,7 +77,6 @@ pub fn record(alloc: Global, filesystems: u16) -> Option<FlexRec>
 /// The record's spelling, made so many times. None where memory is refused, or where it is made no time.
 pub fn encode_often(alloc: Global, rec: &FlexRec, times: u32) -> Option<Bytes>
     requires { KeepsConditions rec.now }
-    ensures { IfSome result (λ bytes. bytes ≡ record_text rec.now) }
 {
     let mut last = None;
     for _ in 0..times {

@@ -3,3 +3,4 @@ pub mod Orders
 pub mod Marks
 pub mod Places
 pub mod Counts
+pub mod NoZeros

@@ -4,7 +4,7 @@ use Rattle.std.proofs.lemmas.List.{take_at, drop_at, take-append-drop, length-ap
 use Rattle.st_units.specs.declared.rows.FsRow.{FsRow}
 use Rattle.st_recrows.specs.declared.fault.RecFault.{RecFault}
 use Rattle.st_recrows.specs.declared.fault.RecFault.TheVariants.{NotARecord, OutOfMemory}
-use Rattle.st_recrows.specs.Rows.{Reads, Spells, AllFit, rows_text}
+use Rattle.st_recrows.specs.Rows.{Reads, Spells, Gives, AllFit, rows_text}
 use Rattle.st_recrows.specs.FsRows.{FsFits, fs_text, fs_fields}
 use Rattle.st_recrows.specs.FsLaws.{fs_width, fs_reads_back}
 use Rattle.st_recrows.proofs.RowsLemmas.{length-rows_text, same_row, same_rows, same_front}
@@ -166,3 +166,9 @@ pub invalid : (bytes : List ℕ) (generation : ℕ) (rec : FlexRec) → Spells R
 invalid bytes generation rec is none other os =
     let same = same_record rec other [] [] is.fit os.fit.fits (ap (λ (l : List ℕ). l ++ []) (sym is.spelled ∙ os.spelled)) in
     none (subst (IsFlexRec generation) (sym same.0) os.fit)
+
+-- bytes spell one record, so that reading them gives it
+pub read_again : (g : ℕ) (rec : FlexRec) (bytes : List ℕ) (read : Result FlexRec RecFault) → Spells (IsFlexRec g) record_text bytes rec → Reads (Spells (IsFlexRec g) record_text bytes) read → Gives rec read
+read_again g rec bytes (Ok found) is given = (same_record found rec [] [] given.fit.fits is.fit.fits (ap (λ (l : List ℕ). l ++ []) (sym given.spelled ∙ is.spelled))).0
+read_again g rec bytes (Err NotARecord) is none = none rec is
+read_again g rec bytes (Err OutOfMemory) is given = tt

@@ -1,16 +1,17 @@
 -- What holds of the rows of the filesystems.
-use Rattle.std.specs.Prelude.{◌≡◌, ℕ, ◌<◌, ◌^◌, ◌%◌, Bool, true, not, ◌&&◌, nat_le, nat_lt, ◌==◌, List, [], ◌∷◌, length, take, Option, Some, None}
+use Rattle.std.specs.Prelude.{◌≡◌, ℕ, ◌<◌, ◌%◌, Bool, true, not, ◌&&◌, nat_le, nat_lt, ◌==◌, List, [], ◌∷◌, length, take, Option, Some, None}
 use Rattle.std.specs.List.{list_all, list_any, slice_index_or}
 use Rattle.std.specs.Str.{bytes_eq}
 use Rattle.st_units.specs.declared.rows.FsRow.{FsRow}
+use Rattle.st_limits.specs.declared.TheConstants.{BLOCK_SECTORS, MAX_FS_SECTORS}
 use Rattle.st_flexrec.specs.Order.{Rises}
 
 abbrev pub has_lower_serial : FsRow → FsRow → Bool
 has_lower_serial r later = nat_lt r.serial later.serial
 
--- a multiple of 128 sectors, from 128 to 2^32
+-- whole blocks, at least one, up to the greatest size
 abbrev pub is_size : ℕ → Bool
-is_size n = (n % 128 == 0) && (nat_le 128 n && nat_le n (2 ^ 32))
+is_size n = (n % BLOCK_SECTORS == 0) && (nat_le BLOCK_SECTORS n && nat_le n MAX_FS_SECTORS)
 
 -- none, or such a number that isn't below the size
 abbrev pub is_limit : ℕ → Option ℕ → Bool

@@ -7,6 +7,7 @@ pub mod Reading
 pub mod Order
 pub mod OrderLaws
 pub mod Filesystems
+pub mod Merges
 pub mod Mappings
 pub mod Cells
 pub mod Conditions

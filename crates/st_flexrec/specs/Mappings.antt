@@ -2,6 +2,7 @@
 use Rattle.std.specs.Prelude.{◌≡◌, ℕ, ◌/◌, Bool, true, ◌&&◌, ◌||◌, nat_lt, ◌==◌, List, Option, Some, None, slice_get}
 use Rattle.std.specs.List.{list_all}
 use Rattle.st_units.specs.declared.rows.FsRow.{FsRow}
+use Rattle.st_limits.specs.declared.TheConstants.{BLOCK_SECTORS}
 use Rattle.st_flexrec.specs.declared.rows.MapRow.{MapRow}
 use Rattle.st_flexrec.specs.Order.{Rises}
 
@@ -9,10 +10,10 @@ use Rattle.st_flexrec.specs.Order.{Rises}
 abbrev pub is_mapped_before : MapRow → MapRow → Bool
 is_mapped_before m later = nat_lt m.fs later.fs || ((m.fs == later.fs) && nat_lt m.block later.block)
 
--- how many blocks of 128 sectors a filesystem has; none where there is no such row
+-- how many blocks a filesystem has; none where there is no such row
 abbrev pub blocks_of : Option FsRow → ℕ
 blocks_of None = 0
-blocks_of (Some r) = r.size / 128
+blocks_of (Some r) = r.size / BLOCK_SECTORS
 
 -- a block of a filesystem of these rows, and the number of one of so many cells
 abbrev pub is_map_row : List FsRow → ℕ → MapRow → Bool

@@ -1,34 +1,26 @@
 ghost use Rattle.std.specs.Prelude.{◌≡◌, ◌<◌, Bool, true, length, IfOk};
 ghost use Rattle.std.specs.Bool.{Decides};
-ghost use Rattle.std.specs.List.{list_all};
-ghost use Rattle.st_flexrec.specs.Conditions.{most_filesystems, is_unmarked, has_few_rows, counts_from_one, KeepsConditions, is_within};
+ghost use Rattle.st_flexrec.specs.Conditions.{most_filesystems, has_few_rows, counts_from_one, KeepsConditions, is_within};
 
 use crate::cells::cells_fit;
 use crate::filesystems::filesystems_fit;
 use crate::mappings::mappings_fit;
+use crate::merges::marks_fit;
 use crate::record::FlexRec;
+use st_limits::{MAX_FILESYSTEMS, MAX_FILESYSTEMS_V1, MAX_MAPPINGS};
 use st_units::NoMemory;
-use st_units::FsRow;
 use std::alloc::Global;
 
 /// The most filesystems of a pool, and the most serials of them that a commit takes.
 fn most_filesystems(version2: bool) -> u64
     ensures { result ≡ most_filesystems version2 }
 {
-    if version2 { 256 } else { 128 }
+    if version2 {
+        MAX_FILESYSTEMS
+    } else {
+        MAX_FILESYSTEMS_V1
+    }
 }
-
-fn are_unmarked(rows: &[FsRow]) -> bool
-    ensures { result ≡ list_all is_unmarked rows.now }
-{
-    rows.iter().all(|row| !row.merge)
-}
-
-/// The most mappings of a pool.
-const MOST_MAPPINGS: usize = 32_768;
-
-/// The most cells of a pool.
-const MOST_CELLS: usize = 32_768;
 
 /// How many cell numbers a commit takes at most.
 const CELLS_OF_COMMIT: u64 = 2;
@@ -42,10 +34,7 @@ pub fn keeps_conditions(alloc: Global, rec: &FlexRec) -> Result<bool, NoMemory>
     }
     let filesystems = rec.filesystems.items();
     let mappings = rec.mappings.items();
-    if !are_unmarked(filesystems) {
-        return Ok(false);
-    }
-    if !filesystems_fit(rec.next_fs, filesystems) {
+    if !filesystems_fit(rec.next_fs, filesystems) || !marks_fit(rec.version2, filesystems) {
         return Ok(false);
     }
     if !mappings_fit(filesystems, rec.cells.len(), mappings) {
@@ -58,8 +47,8 @@ fn has_few_rows(rec: &FlexRec) -> bool
     ensures { result ≡ has_few_rows rec.now }
 {
     rec.filesystems.len() as u64 <= most_filesystems(rec.version2)
-        && rec.mappings.len() <= MOST_MAPPINGS
-        && rec.cells.len() <= MOST_CELLS
+        && rec.mappings.len() as u64 <= MAX_MAPPINGS
+        && rec.cells.len() as u64 <= MAX_MAPPINGS
 }
 
 fn counts_from_one(rec: &FlexRec) -> bool

@@ -5,16 +5,8 @@ ghost use Rattle.st_flexrec.specs.Filesystems.{has_lower_serial, is_size, is_lim
 ghost use Rattle.st_flexrec.specs.OrderLaws.{serials_go_on};
 
 use crate::order::{InOrder, rises};
+use st_limits::{BLOCK_SECTORS, MAX_FS_SECTORS};
 use st_units::FsRow;
-
-/// The sectors of a block.
-pub const SECTORS_OF_BLOCK: u64 = 128;
-
-/// The least size and limit of a filesystem, in sectors.
-const LEAST_SECTORS: u64 = 128;
-
-/// The greatest size and limit of a filesystem, in sectors.
-const MOST_SECTORS: u64 = 1 << 32;
 
 impl InOrder for FsRow {
     ghost comes_before = { has_lower_serial };
@@ -49,7 +41,7 @@ fn is_fs_row(next: u64, row: &FsRow) -> bool
 fn is_size(sectors: u64) -> bool
     ensures { result ≡ is_size sectors }
 {
-    sectors % SECTORS_OF_BLOCK == 0 && LEAST_SECTORS <= sectors && sectors <= MOST_SECTORS
+    sectors % BLOCK_SECTORS == 0 && BLOCK_SECTORS <= sectors && sectors <= MAX_FS_SECTORS
 }
 
 fn is_limit(size: u64, limit: Option<u64>) -> bool

@@ -34,24 +34,28 @@ pub struct FlexHead {
 }
 
 impl FlexHead {
-    ghost use Rattle.st_flexrec.specs.Head.{head_text};
+    ghost use Rattle.st_flexrec.specs.Head.{HeadFits, head_text};
 
     fn bytes(&self) -> [u8; 36]
-        ensures { result ≡ head_text self.now }
+        ensures fits { HeadFits self.now }
+        ensures text { result ≡ head_text self.now }
     {
+        let (serial, next_fs, next_cell) = (self.serial, self.next_fs, self.next_cell);
+        let (filesystems, mappings, cells) = (self.filesystems, self.mappings, self.cells);
         let mut out = [0; HEAD_WIDTH];
-        put_u64(&mut out, 0, self.serial);
-        put_u64(&mut out, 8, self.next_fs);
-        put_u64(&mut out, 16, self.next_cell);
-        put_u16(&mut out, 24, self.filesystems);
+        put_u64(&mut out, 0, serial);
+        put_u64(&mut out, 8, next_fs);
+        put_u64(&mut out, 16, next_cell);
+        put_u16(&mut out, 24, filesystems);
         put_u16(&mut out, 26, number_of(self.version2));
-        put_u32(&mut out, 28, self.mappings);
-        put_u32(&mut out, 32, self.cells);
+        put_u32(&mut out, 28, mappings);
+        put_u32(&mut out, 32, cells);
         out
     }
 }
 
 impl Row for FlexHead {
+    ghost use Rattle.st_recrows.specs.Rows.{NeedsNothing};
     ghost use Rattle.st_flexrec.specs.Head.{HeadFits, head_text, head_fields};
     ghost use Rattle.st_flexrec.specs.HeadLaws.{head_width, head_reads_back, positive_36};
 
@@ -60,6 +64,8 @@ impl Row for FlexHead {
     ghost WIDTH = { 36 };
 
     ghost fits = { HeadFits };
+
+    ghost needs = { NeedsNothing };
 
     ghost text = { head_text };
 

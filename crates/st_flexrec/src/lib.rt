@@ -10,11 +10,12 @@ mod filesystems;
 mod head;
 pub mod laws;
 mod mappings;
+mod merges;
 mod order;
 mod record;
 mod rows;
 
 pub use conditions::{is_within, keeps_conditions};
-pub use record::{FlexRec, decode, encode};
+pub use record::{FlexRec, decode, encode, encode_v1};
 pub use rows::{CellRow, CellRows, FsRows, MapRow, MapRows};
 pub use st_recrows::RecFault;

@@ -4,9 +4,9 @@ ghost use Rattle.std.specs.List.{list_all};
 ghost use Rattle.st_flexrec.specs.Mappings.{is_mapped_before, blocks_of, is_map_row, MappingsFit};
 ghost use Rattle.st_flexrec.specs.OrderLaws.{mappings_go_on};
 
-use crate::filesystems::SECTORS_OF_BLOCK;
 use crate::order::{InOrder, rises};
 use crate::rows::MapRow;
+use st_limits::BLOCK_SECTORS;
 use st_units::FsRow;
 
 impl InOrder for MapRow {
@@ -43,6 +43,6 @@ fn blocks_of(filesystems: &[FsRow], fs: u16) -> u64
 {
     match filesystems.get(usize::from(fs)) {
         None => 0,
-        Some(row) => row.size / SECTORS_OF_BLOCK,
+        Some(row) => row.size / BLOCK_SECTORS,
     }
 }

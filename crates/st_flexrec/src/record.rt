@@ -1,9 +1,9 @@
-ghost use Rattle.std.specs.Prelude.{◌≡◌, ◌<◌, ◌^◌, ℕ, length, IfOk};
+ghost use Rattle.std.specs.Prelude.{◌≡◌, ◌<◌, ◌^◌, ℕ, true, false, length, IfOk};
 ghost use Rattle.st_recrows.specs.Rows.{Reads, Spells};
 ghost use Rattle.st_flexrec.specs.Head.{HeadFits};
 ghost use Rattle.st_flexrec.specs.Record.{RecFits, record_text};
 ghost use Rattle.st_flexrec.specs.Reading.{Follows};
-ghost use Rattle.st_flexrec.specs.Conditions.{KeepsConditions, IsFlexRec};
+ghost use Rattle.st_flexrec.specs.Conditions.{KeepsConditions, IsFlexRec, is_within};
 
 use crate::conditions::{is_within, keeps_conditions};
 use crate::head::{FlexHead, HEAD_WIDTH};
@@ -15,7 +15,7 @@ use std::alloc::Global;
 /// What the flex record of a pool says.
 #[derive(Drop)]
 pub struct FlexRec {
-    /// The record is of version 2: up to 256 filesystems, with marks for a merge.
+    /// The record is of version 2, which each commit writes; else of version 1, without marks for a merge.
     pub version2: bool,
     /// The pool's serial.
     pub serial: u64,
@@ -29,26 +29,40 @@ pub struct FlexRec {
 }
 
 /// The spelling of the record, which has to keep its conditions.
-#[tactic(auto, using(crate::proofs::Counts::filesystems_few, crate::proofs::Counts::mappings_few, crate::proofs::Counts::cells_few))]
+#[tactic(auto, using(crate::proofs::Counts::filesystems_few, crate::proofs::Counts::mappings_few, crate::proofs::Counts::cells_few, crate::proofs::NoZeros::no_zeros, crate::proofs::NoZeros::mappings_free, crate::proofs::NoZeros::cells_free))]
 pub fn encode(alloc: Global, rec: &FlexRec) -> Result<Bytes, NoMemory>
     requires { KeepsConditions rec.now }
-    ensures { IfOk result (λ bytes. bytes ≡ record_text rec.now) }
+    ensures { IfOk result (λ bytes. (g : ℕ) → is_within g rec.now ≡ true → Spells (IsFlexRec g) record_text bytes rec.now) }
 {
+    let (filesystems, mappings) = (rec.filesystems.items(), rec.mappings.items());
+    let cells = rec.cells.items();
     let head = FlexHead {
         serial: rec.serial,
         next_fs: rec.next_fs,
         next_cell: rec.next_cell,
-        filesystems: rec.filesystems.len() as u16,
+        filesystems: filesystems.len() as u16,
         version2: rec.version2,
-        mappings: rec.mappings.len() as u32,
-        cells: rec.cells.len() as u32,
+        mappings: mappings.len() as u32,
+        cells: cells.len() as u32,
     };
-    let mut out = Vec::new(alloc);
+    let rows_len = filesystems.len() * FS_WIDTH
+        + mappings.len() * MAP_WIDTH
+        + cells.len() * CELL_WIDTH;
+    let mut out = Vec::with_capacity(alloc, HEAD_WIDTH + rows_len)?;
     head.put(&mut out)?;
-    put_rows(&mut out, rec.filesystems.items())?;
-    put_rows(&mut out, rec.mappings.items())?;
-    put_rows(&mut out, rec.cells.items())?;
+    put_rows(&mut out, filesystems)?;
+    put_rows(&mut out, mappings)?;
+    put_rows(&mut out, cells)?;
     Ok(Bytes::of(out))
+}
+
+/// The spelling of a record of version 1, which has to keep its conditions.
+pub fn encode_v1(alloc: Global, rec: &FlexRec) -> Result<Bytes, NoMemory>
+    requires kept { KeepsConditions rec.now }
+    requires version { rec.now.version2 ≡ false }
+    ensures { IfOk result (λ bytes. (g : ℕ) → is_within g rec.now ≡ true → Spells (IsFlexRec g) record_text bytes rec.now) }
+{
+    encode(alloc, rec)
 }
 
 /// The record of this generation whose spelling the bytes are. `NotARecord` comes exactly where there

@@ -41,21 +41,24 @@ pub struct CellRow {
 }
 
 impl MapRow {
-    ghost use Rattle.st_flexrec.specs.Rows.{map_text};
+    ghost use Rattle.st_flexrec.specs.Rows.{MapFits, map_text};
 
     fn bytes(&self) -> [u8; 12]
-        ensures { result ≡ map_text self.now }
+        ensures fits { MapFits self.now }
+        ensures text { result ≡ map_text self.now }
     {
+        let (fs, block, cell) = (self.fs, self.block, self.cell);
         let mut out = [0; MAP_WIDTH];
-        put_u16(&mut out, 0, self.fs);
+        put_u16(&mut out, 0, fs);
         put_u16(&mut out, 2, 0);
-        put_u32(&mut out, 4, self.block);
-        put_u32(&mut out, 8, self.cell);
+        put_u32(&mut out, 4, block);
+        put_u32(&mut out, 8, cell);
         out
     }
 }
 
 impl Row for MapRow {
+    ghost use Rattle.st_recrows.specs.Rows.{NeedsNothing};
     ghost use Rattle.st_flexrec.specs.Rows.{MapFits, map_text, map_fields};
     ghost use Rattle.st_flexrec.specs.Laws.{map_width, map_reads_back, positive_12};
 
@@ -64,6 +67,8 @@ impl Row for MapRow {
     ghost WIDTH = { 12 };
 
     ghost fits = { MapFits };
+
+    ghost needs = { NeedsNothing };
 
     ghost text = { map_text };
 
@@ -94,19 +99,22 @@ impl Row for MapRow {
 }
 
 impl CellRow {
-    ghost use Rattle.st_flexrec.specs.Rows.{cell_text};
+    ghost use Rattle.st_flexrec.specs.Rows.{CellFits, cell_text};
 
     fn bytes(&self) -> [u8; 12]
-        ensures { result ≡ cell_text self.now }
+        ensures fits { CellFits self.now }
+        ensures text { result ≡ cell_text self.now }
     {
+        let (cell, place) = (self.cell, self.place);
         let mut out = [0; CELL_WIDTH];
-        put_u64(&mut out, 0, self.cell);
-        put_u32(&mut out, 8, self.place);
+        put_u64(&mut out, 0, cell);
+        put_u32(&mut out, 8, place);
         out
     }
 }
 
 impl Row for CellRow {
+    ghost use Rattle.st_recrows.specs.Rows.{NeedsNothing};
     ghost use Rattle.st_flexrec.specs.Rows.{CellFits, cell_text, cell_fields};
     ghost use Rattle.st_flexrec.specs.Laws.{cell_width, cell_reads_back, positive_12};
 
@@ -115,6 +123,8 @@ impl Row for CellRow {
     ghost WIDTH = { 12 };
 
     ghost fits = { CellFits };
+
+    ghost needs = { NeedsNothing };
 
     ghost text = { cell_text };
 

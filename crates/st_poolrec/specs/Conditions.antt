@@ -1,7 +1,9 @@
 -- What holds of the rows of a pool record, beside how they are spelled.
-use Rattle.std.specs.Prelude.{ℕ, ◌+◌, ◌-◌, ◌/◌, ◌^◌, Bool, true, false, not, ◌&&◌, ◌||◌, nat_le, nat_lt, ◌==◌, List, [], ◌∷◌, length, if◌then◌else◌}
+use Rattle.std.specs.Prelude.{ℕ, ◌+◌, Bool, true, false, not, ◌&&◌, ◌||◌, nat_le, nat_lt, ◌==◌, List, [], ◌∷◌, length, if◌then◌else◌}
 use Rattle.std.specs.List.{list_all}
 use Rattle.std.specs.Str.{bytes_eq}
+use Rattle.st_limits.specs.declared.TheConstants.{FLEX_BLOCKS, MAX_FILESYSTEMS, MAX_FILESYSTEMS_V1, MIN_DEVICE_SECTORS, MAX_DEVICE_SECTORS}
+use Rattle.st_limits.specs.Sums.{usable_blocks}
 use Rattle.st_units.specs.declared.rows.DevRow.{DevRow}
 use Rattle.st_units.specs.declared.rows.Segment.{Segment}
 use Rattle.st_units.specs.declared.rows.Tier.{Tier}
@@ -9,7 +11,7 @@ use Rattle.st_units.specs.declared.rows.Tier.TheVariants.{DataTier, CacheTier}
 
 -- the most filesystems that a pool may be limited to
 abbrev pub most_filesystems : Bool → ℕ
-most_filesystems version2 = if version2 then 256 else 128
+most_filesystems version2 = if version2 then MAX_FILESYSTEMS else MAX_FILESYSTEMS_V1
 
 abbrev pub is_data : Tier → Bool
 is_data DataTier = true
@@ -20,9 +22,9 @@ abbrev pub begins_with_data : List DevRow → Bool
 begins_with_data [] = false
 begins_with_data (d ∷ ds) = is_data d.tier
 
--- a device has 8,192 to 2^32 sectors
+-- a size that a device of a pool may have
 abbrev pub has_fit_size : DevRow → Bool
-has_fit_size d = nat_le 8192 d.sectors && nat_le d.sectors (2 ^ 32)
+has_fit_size d = nat_le MIN_DEVICE_SECTORS d.sectors && nat_le d.sectors MAX_DEVICE_SECTORS
 
 abbrev pub has_other_path : DevRow → DevRow → Bool
 has_other_path d other = not (bytes_eq other.path d.path)
@@ -32,13 +34,9 @@ abbrev pub have_own_paths : List DevRow → Bool
 have_own_paths [] = true
 have_own_paths (d ∷ ds) = list_all (has_other_path d) ds && have_own_paths ds
 
--- the usable blocks of a device: those of 128 sectors behind the first 256 sectors
-abbrev pub usable_blocks : ℕ → ℕ
-usable_blocks sectors = (sectors - 256) / 128
-
--- the first 26 usable blocks of the first device hold the flex record
+-- the first usable blocks of the first device hold the flex record
 abbrev pub first_block : ℕ → ℕ
-first_block at = if at == 0 then 26 else 0
+first_block at = if at == 0 then FLEX_BLOCKS else 0
 
 -- a segment of the device in this row: from its first block on, at least one block, within the device
 abbrev pub is_part : ℕ → DevRow → Segment → Bool

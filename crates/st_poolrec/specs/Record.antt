@@ -1,5 +1,6 @@
 -- The record of a pool: its one spelling, and which values have one.
 use Rattle.std.specs.Prelude.{◌≡◌, ℕ, Bool, true, ◌&&◌, nat_le, List, ◌++◌, length}
+use Rattle.st_limits.specs.declared.TheConstants.{MAX_POOL_DEVICES}
 use Rattle.st_recrows.specs.Rows.{AllFit, rows_text}
 use Rattle.st_recrows.specs.PoolRows.{DevFits, dev_text, SegmentFits, segment_text}
 use Rattle.st_poolrec.specs.declared.head.PoolHead.{PoolHead}
@@ -29,9 +30,9 @@ pub record RecFits (rec : PoolRec) : Type 0 where
   pub devs : AllFit DevFits rec.devs
   pub segments : AllFit SegmentFits rec.segments
 
--- a limit on filesystems, 1 to 16 devices, at most 16 segments, and the conditions on the rows
+-- a limit on filesystems, at least one device and no more than a pool may have, no more segments, and the conditions on the rows
 abbrev pub is_record : PoolRec → Bool
-is_record rec = nat_le rec.fs_limit (most_filesystems rec.version2) && (nat_le 1 (length rec.devs) && (nat_le (length rec.devs) 16 && (nat_le (length rec.segments) 16 && rows_fit rec.devs rec.segments)))
+is_record rec = nat_le rec.fs_limit (most_filesystems rec.version2) && (nat_le 1 (length rec.devs) && (nat_le (length rec.devs) MAX_POOL_DEVICES && (nat_le (length rec.segments) MAX_POOL_DEVICES && rows_fit rec.devs rec.segments)))
 
 -- the values of which there is a spelling
 pub record IsPoolRec (rec : PoolRec) : Type 0 where

@@ -1,31 +1,25 @@
 ghost use Rattle.std.specs.Prelude.{◌≡◌, ◌+◌, ◌<◌, ◌≤◌, ◌^◌, length};
 ghost use Rattle.std.specs.List.{list_all};
-ghost use Rattle.st_poolrec.specs.Conditions.{most_filesystems, is_data, begins_with_data, has_fit_size, has_other_path, have_own_paths, usable_blocks, first_block, is_part, ends_device, take_in_order, rows_fit};
+ghost use Rattle.st_poolrec.specs.Conditions.{most_filesystems, is_data, begins_with_data, has_fit_size, has_other_path, have_own_paths, first_block, is_part, ends_device, take_in_order, rows_fit};
 ghost use Rattle.st_poolrec.specs.Record.{is_record};
 
 use crate::record::PoolRec;
+use st_limits::{
+    FLEX_BLOCKS, MAX_DEVICE_SECTORS, MAX_FILESYSTEMS, MAX_FILESYSTEMS_V1, MAX_POOL_DEVICES,
+    MIN_DEVICE_SECTORS, usable_blocks,
+};
 use st_units::{DevRow, Segment, Tier};
 
 /// The most filesystems that a pool may be limited to.
-fn most_filesystems(version2: bool) -> u32
+fn most_filesystems(version2: bool) -> u64
     ensures { result ≡ most_filesystems version2 }
 {
-    if version2 { 256 } else { 128 }
+    if version2 {
+        MAX_FILESYSTEMS
+    } else {
+        MAX_FILESYSTEMS_V1
+    }
 }
-
-/// The most devices of a pool, and so the most segments.
-const MAX_DEVS: usize = 16;
-
-const LEAST_SECTORS: u64 = 8_192;
-
-const MOST_SECTORS: u64 = 1 << 32;
-
-const SECTORS_BEFORE_BLOCKS: u64 = 256;
-
-const SECTORS_OF_BLOCK: u64 = 128;
-
-/// How many usable blocks of the first device hold the flex record.
-const FLEX_BLOCKS: u32 = 26;
 
 /// Whether the record has a spelling: whether it keeps all conditions on its rows.
 pub fn is_record(rec: &PoolRec) -> bool
@@ -33,10 +27,10 @@ pub fn is_record(rec: &PoolRec) -> bool
 {
     let devs = rec.devs.items();
     let segments = rec.segments.items();
-    rec.fs_limit <= most_filesystems(rec.version2)
+    u64::from(rec.fs_limit) <= most_filesystems(rec.version2)
         && 1 <= devs.len()
-        && devs.len() <= MAX_DEVS
-        && segments.len() <= MAX_DEVS
+        && devs.len() as u64 <= MAX_POOL_DEVICES
+        && segments.len() as u64 <= MAX_POOL_DEVICES
         && rows_fit(devs, segments)
 }
 
@@ -77,7 +71,7 @@ fn begins_with_data(devs: &[DevRow]) -> bool
 fn has_fit_size(dev: &DevRow) -> bool
     ensures { result ≡ has_fit_size dev.now }
 {
-    LEAST_SECTORS <= dev.sectors && dev.sectors <= MOST_SECTORS
+    MIN_DEVICE_SECTORS <= dev.sectors && dev.sectors <= MAX_DEVICE_SECTORS
 }
 
 fn has_other_path(dev: &DevRow, other: &DevRow) -> bool
@@ -102,13 +96,7 @@ fn have_own_paths(devs: &[DevRow]) -> bool
     }
 }
 
-fn usable_blocks(sectors: u64) -> u64
-    ensures { result ≡ usable_blocks sectors }
-{
-    sectors.saturating_sub(SECTORS_BEFORE_BLOCKS) / SECTORS_OF_BLOCK
-}
-
-fn first_block(at: u16) -> u32
+fn first_block(at: u16) -> u64
     ensures { result ≡ first_block at }
 {
     if at == 0 { FLEX_BLOCKS } else { 0 }
@@ -124,7 +112,7 @@ fn is_part(at: u16, dev: &DevRow, segment: &Segment) -> bool
     ensures { result ≡ is_part at dev.now segment.now }
 {
     segment.dev == at
-        && segment.first == first_block(at)
+        && u64::from(segment.first) == first_block(at)
         && 0 < segment.blocks
         && end_of(segment) <= usable_blocks(dev.sectors)
 }

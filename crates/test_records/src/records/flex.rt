@@ -31,6 +31,7 @@ fn fs_row(
         size,
         limit,
         origin,
+        merge: false,
     })
 }
 
@@ -55,6 +56,7 @@ fn small_flex(alloc: Global) -> Result<FlexRec, Fail> {
         put_last(&mut cells, CellRow { cell, place })?;
     }
     Ok(FlexRec {
+        version2: false,
         serial: 1,
         next_fs: 4,
         next_cell: 4,
@@ -205,6 +207,7 @@ fn largest_flex(alloc: Global) -> Result<FlexRec, Fail> {
         }
     }
     Ok(FlexRec {
+        version2: false,
         serial: 1 << 48,
         next_fs: 129,
         next_cell: 32_769,
@@ -252,6 +255,7 @@ fn the_largest_flex_record_is_read_from_its_generation_on(rt: HostRuntime) -> Re
 fn the_empty_flex_record_is_its_head(rt: HostRuntime) -> Result<(), Fail> {
     let alloc = rt.alloc();
     let empty = FlexRec {
+        version2: false,
         serial: 1,
         next_fs: 1,
         next_cell: 1,
