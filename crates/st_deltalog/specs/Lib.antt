@@ -1,0 +1,4 @@
+pub mod Log
+pub mod Bearing
+pub mod Choice
+pub mod Finding

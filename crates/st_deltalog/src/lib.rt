@@ -1,0 +1,12 @@
+//! The flex area of a device: a checkpoint in each of two slots, followed by deltas.
+#![tactic(auto)]
+
+mod area;
+mod choice;
+mod find;
+mod write;
+
+pub use area::{FlexArea, Tail};
+pub use choice::may_follow;
+pub use find::{serial_of, tail_of};
+pub use write::{append, checkpoint};
