@@ -2,7 +2,8 @@
 use Rattle.std.proofs.Common.{◌≡◌, inl, inr, ℕ, ◌+◌, ◌-◌, ◌^◌, ◌≤◌, min, true, false, IsNone, List, get_or, slice_set, sym, ◌∙◌, ap, subst, arith}
 use Rattle.st_rack.specs.Story.{Settled}
 use Rattle.st_rack.specs.Device.{Path, DevState, State, Synced, Settling, Cut}
-use Rattle.st_rack.specs.Calls.{Rose, Has, sectors_of}
+use Rattle.st_units.specs.Causes.{Rose}
+use Rattle.st_rack.specs.Calls.{Has, sectors_of}
 use Rattle.st_rack.proofs.Look.{has_or_not}
 use Rattle.st_shelf.specs.Shelf.{rows_of, state_in, is_in, no_device, IsFirst}
 use Rattle.st_shelf.specs.Past.{depth, was}

@@ -172,8 +172,9 @@ impl Rack for MemRack {
     ghost use Rattle.std.specs.List.{IsDistinct};
     ghost use Rattle.st_rack.specs.Device.{Path, cells, Touched, Written, Settling, Synced};
     ghost use Rattle.st_rack.specs.Moments.{Goes, OnDevice, AllCut};
-    ghost use Rattle.st_rack.specs.Calls.{Has, HasCause, Rose, IsWithin, names, sectors_of};
-    ghost use Rattle.st_rack.specs.Parts.{IsSame, Splits, Joins};
+    ghost use Rattle.st_units.specs.Causes.{HasCause, Rose};
+    ghost use Rattle.st_rack.specs.Calls.{Has, IsWithin, names, sectors_of};
+    ghost use Rattle.st_rack.specs.Parts.{IsSame, Splits, AreApart, Joins};
     ghost use Rattle.st_memrack.specs.MemRack.{mem_list, mem_devs, mem_moment, mem_state_at, mem_faults, mem_reads, mem_spare};
     ghost use Rattle.st_memrack.specs.Exact.{SameRest, ReadsOn, WritesOn, SyncsOn, SplitsOff, Absorbs, Cycles};
 
@@ -310,7 +311,7 @@ impl Rack for MemRack {
     }
 
     fn absorb(&mut self, other: Self)
-        requires apart { (p : Path) (n : ℕ) → Has (mem_devs other) p n → IsNone (sectors_of (mem_devs self.old) p) }
+        requires apart { AreApart mem_devs self.old other }
         requires room { length (mem_devs other) ≤ mem_spare self.old }
         ensures joined { Joins mem_devs mem_moment mem_state_at self.old other self.new }
         ensures places { mem_spare self.old ≤ mem_spare self.new + length (mem_devs other) }

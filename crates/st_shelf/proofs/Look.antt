@@ -1,12 +1,17 @@
 -- What the first device of a path has, and what changes where another stands in its place.
-use Rattle.std.proofs.Common.{◌≡◌, ◌≢◌, inl, inr, ℕ, zero, suc, ◌+◌, ◌*◌, ◌<◌, ◌≤◌, Bool, true, false, cond, Option, Some, None, is_some, IsNone, List, [], ◌∷◌, length, get_or, slice_set, refl, sym, ◌∙◌, ap, subst, arith}
+use Rattle.std.proofs.Common.{◌≡◌, ◌≢◌, inl, inr, ℕ, zero, suc, ◌+◌, ◌*◌, ◌<◌, ◌≤◌, Bool, true, false, cond, Option, Some, None, is_some, unwrap_or, IsNone, Less, List, [], ◌∷◌, length, get_or, slice_set, refl, sym, ◌∙◌, ap, subst, arith}
+use Rattle.std.specs.List.{slice_get}
+use Rattle.std.specs.Option.{option_map}
+use Rattle.std.specs.Ordering.{nat_cmp}
+use Rattle.std.specs.Cmp.Lexicographic.{slice_cmp}
 use Rattle.std.specs.Str.{bytes_eq}
+use Rattle.std.proofs.lemmas.Option.{slice_get-map}
 use Rattle.std.proofs.lemmas.Slice.Eq.{bytes_eq-Decides}
 use Rattle.std.proofs.lemmas.Bool.{cases_Bool, cases_lt}
 use Rattle.st_rack.specs.Device.{Path}
-use Rattle.st_rack.specs.Calls.{Devices, sectors_of, Has, Rises, IsWithin}
+use Rattle.st_rack.specs.Calls.{Devices, sectors_of, size_in, Has, Rises, IsWithin}
 use Rattle.st_shelf.specs.Shelf.{comes_before, rows_of, look, is_in, IsFirst}
-use Rattle.st_shelf.proofs.Order.{before_less, not_before, less_apart, less_less, rises_at}
+use Rattle.st_shelf.proofs.Order.{Below, paths, before_less, not_before, less_apart, less_less, rises_at, rises_first, rises_rest}
 
 pub differ : (a b : Path) → (a ≡ b → ⊥) → bytes_eq a b ≡ false
 differ a b ne = elim (cases_Bool (bytes_eq a b)) [ inl hit ↦ absurd (ne ((bytes_eq-Decides a b).0 hit)) | inr miss ↦ miss ]
@@ -16,6 +21,9 @@ equal a b same = (bytes_eq-Decides a b).1 same
 
 pub bytes_eq-sym : (a b : Path) → bytes_eq a b ≡ false → bytes_eq b a ≡ false
 bytes_eq-sym a b miss = differ b a (λ e. let hit = equal a b (sym e) in cc)
+
+some_same : {D : Type 0} (x y : D) → Some x ≡ Some y → x ≡ y
+some_same x y is = cc
 
 module _ {D : Type 0} (path : D → Path) where
   pub first_path : (l : List D) (p : Path) (i : ℕ) (d : D) → IsFirst path l p i → path (get_or l i d) ≡ p
@@ -91,6 +99,32 @@ module _ {D : Type 0} (path : D → Path) (size : D → ℕ) where
   none_there (x ∷ l) p misses =
       ap (λ (b : Bool). is_some (cond b (Some (size x)) (sectors_of (rows_of path size l) p))) (misses 0 x (omega arith))
       ∙ none_there l p (λ k d lt. misses (suc k) d (omega arith))
+
+  below_get : (p : Path) (l : List D) (i : ℕ) (d : D) → Below p (paths path size l) → slice_get l i ≡ Some d → slice_cmp nat_cmp p (path d) ≡ Less
+  below_get p [] i d h is = absurd (let gone : None ≡ Some d = is in cc)
+  below_get p (x ∷ l) zero d h is = let same : x ≡ d = some_same x d is in subst (λ (y : D). slice_cmp nat_cmp p (path y) ≡ Less) same h.0
+  below_get p (x ∷ l) (suc i) d h is = below_get p l i d h.1 is
+
+  -- the device at an index is there, with its sectors
+  pub at_has : (l : List D) (i : ℕ) (d : D) → Rises (rows_of path size l) → slice_get l i ≡ Some d → Has (rows_of path size l) (path d) (size d)
+  at_has [] i d rises is = absurd (let gone : None ≡ Some d = is in cc)
+  at_has (x ∷ l) zero d rises is =
+      let same : x ≡ d = some_same x d is in
+      ap (λ (b : Bool). cond b (Some (size x)) (sectors_of (rows_of path size l) (path d))) (equal (path x) (path d) (ap path same)) ∙ ap (λ (y : D). Some (size y)) same
+  at_has (x ∷ l) (suc i) d rises is =
+      let miss = less_apart (path x) (path d) (below_get (path x) l i d (rises_first path size x l rises) is) in
+      ap (λ (b : Bool). cond b (Some (size x)) (sectors_of (rows_of path size l) (path d))) miss ∙ at_has l i d (rises_rest path size x l rises) is
+
+  -- so it is the row that its path tells
+  pub at_row : (l : List D) (i : ℕ) (d : D) → Rises (rows_of path size l) → slice_get l i ≡ Some d → slice_get (rows_of path size l) i ≡ Some (path d, size_in (rows_of path size l) (path d))
+  at_row l i d rises is =
+      slice_get-map (λ (y : D). (path y, size y)) l i ∙ ap (λ (o : Option D). option_map (λ y. (path y, size y)) o) is
+      ∙ ap (λ (o : Option ℕ). Some (path d, unwrap_or o 0)) (sym (at_has l i d rises is))
+
+  pub at_size : (l : List D) (i : ℕ) (d : D) → Rises (rows_of path size l) → slice_get l i ≡ Some d → Has (rows_of path size l) (path d) (size_in (rows_of path size l) (path d))
+  at_size l i d rises is =
+      let has = at_has l i d rises is in
+      has ∙ ap (λ (o : Option ℕ). Some (unwrap_or o 0)) (sym has)
 
   -- what lies within the device's sectors
   pub fits : (l : List D) (p : Path) (i : ℕ) (d : D) (sector n : ℕ) → IsFirst path l p i → IsWithin (rows_of path size l) p sector n → 512 * sector + n ≤ 512 * size (get_or l i d)

@@ -1,6 +1,7 @@
 use Rattle.std.proofs.Common.{◌≡◌, ℕ, ◌*◌, length, OnOk, subst, sym, ◌∙◌, ap}
 use Rattle.st_rack.specs.Device.{DevState, State, cells}
-use Rattle.st_rack.specs.Calls.{Devices, Rises, Rose}
+use Rattle.st_units.specs.Causes.{Rose}
+use Rattle.st_rack.specs.Calls.{Devices, Rises}
 use Rattle.st_shelf.specs.Shelf.{look, no_device}
 use Rattle.st_shelf.specs.Past.{was}
 use Rattle.st_sparse.specs.Sparse.{sparse_path, sparse_size, sparse_state, sparse_reads}

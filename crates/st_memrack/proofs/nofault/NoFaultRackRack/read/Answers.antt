@@ -1,6 +1,7 @@
 use Rattle.std.proofs.Common.{ℕ, ◌+◌, ◌-◌, ◌*◌, ◌^◌, ◌≤◌, min, List, length, get_or, slice_set, subst, sym, ◌∙◌, ap}
 use Rattle.st_rack.specs.Device.{DevState, State, cells}
-use Rattle.st_rack.specs.Calls.{Devices, Rises, Rose}
+use Rattle.st_units.specs.Causes.{Rose}
+use Rattle.st_rack.specs.Calls.{Devices, Rises}
 use Rattle.st_shelf.specs.Shelf.{look, no_device, IsFirst}
 use Rattle.st_shelf.specs.Past.{was}
 use Rattle.st_shelf.proofs.Look.{fits, first_path, rows_set, look_set_kept, look_first, look_set_same, look_set_other}
