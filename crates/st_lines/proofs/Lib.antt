@@ -1,4 +1,5 @@
 pub mod Bare
+pub mod Broken
 pub mod Cuts
 pub mod Joined
 pub mod Known

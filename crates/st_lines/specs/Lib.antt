@@ -1,4 +1,4 @@
-pub mod Causes
 pub mod GiveBack
+pub mod Limits
 pub mod Lines
 pub mod Spans

@@ -2,6 +2,7 @@
 #![tactic(auto)]
 
 mod laws;
+mod limit;
 mod lines;
 mod memory;
 mod outlet;
@@ -10,9 +11,10 @@ mod read;
 mod stream;
 
 pub use laws::lines_give_back;
+pub use limit::Limit;
 pub use lines::Lines;
 pub use memory::{MemorySink, MemorySource};
 pub use outlet::Outlet;
 pub use put::put_all;
-pub use read::{Limit, MOST_BYTES, ReadStop, read_lines};
+pub use read::{ReadStop, read_lines};
 pub use stream::{Failed, Reading, Sink, Source, Writing};

@@ -1,8 +1,12 @@
-ghost use Rattle.std.specs.Prelude.{◌≡◌, ◌<◌, IfOk, length, slice_get, map, All, unwrap_or};
+ghost use Rattle.std.specs.Prelude.{◌≡◌, ◌<◌, Some, None, Err, IfOk, OnOk, [], ◌∷◌, ◌++◌, length, slice_get, map, All, unwrap_or};
 ghost use Rattle.std.specs.List.{position};
+ghost use Rattle.st_lines.specs.Limits.{broken_by_lines};
 ghost use Rattle.st_lines.specs.Lines.{is_feed, lines_of};
+ghost use Rattle.st_lines.specs.declared.read.ReadStop.{ReadStop};
 ghost use Rattle.st_lines.specs.Spans.{line_at, LiesIn};
 
+use crate::limit::{Limit, broken_by_line};
+use crate::read::ReadStop;
 use st_units::NoMemory;
 use std::alloc::Global;
 use std::marker::Model;
@@ -33,9 +37,12 @@ impl Model for Lines {
 }
 
 impl Lines {
-    /// The lines of a text. The text isn't copied.
-    pub fn cut(alloc: Global, text: Vec<u8>) -> Result<Lines, NoMemory>
-        ensures { IfOk result (λ lines. lines ≡ lines_of text.items) }
+    /// The lines of a text, where none of them breaks a limit. The text isn't copied.
+    pub(crate) fn cut(alloc: Global, text: Vec<u8>) -> Result<Lines, ReadStop>
+        ensures lines { IfOk result (λ lines. lines ≡ lines_of text.items) }
+        ensures kept { OnOk result (broken_by_lines 1 (lines_of text.items) ≡ None) }
+        ensures limit { (limit : Limit) → result ≡ Err (ReadStop.Limit limit) → broken_by_lines 1 (lines_of text.items) ≡ Some limit }
+        ensures fault { result ≡ Err ReadStop.Fault → ⊥ }
     {
         let spans = spans_of(alloc, text.as_slice())?;
         Ok(Lines { text, spans })
@@ -57,18 +64,32 @@ impl Lines {
     }
 }
 
-fn spans_of(alloc: Global, text: &[u8]) -> Result<Vec<Span>, NoMemory>
+fn spans_of(alloc: Global, text: &[u8]) -> Result<Vec<Span>, ReadStop>
     ensures lines { IfOk result (λ spans. map (line_at text.now) spans.items ≡ lines_of text.now) }
     ensures within { IfOk result (λ spans. All (LiesIn text.now) spans.items) }
+    ensures kept { OnOk result (broken_by_lines 1 (lines_of text.now) ≡ None) }
+    ensures limit { (limit : Limit) → result ≡ Err (ReadStop.Limit limit) → broken_by_lines 1 (lines_of text.now) ≡ Some limit }
+    ensures fault { result ≡ Err ReadStop.Fault → ⊥ }
 {
     let mut spans = Vec::new(alloc);
     let mut from = 0;
     while from < text.len() {
-        let to = from + line_len(&text[from..]);
-        spans.push(Span { from, to })?;
+        let len = line_len(&text[from..]);
+        let to = from + len;
+        if let Some(limit) = broken_by_line(spans.len() as u64 + 1, len) {
+            return Err(ReadStop::Limit(limit));
+        }
+        push(&mut spans, Span { from, to })?;
         from = to + 1;
     }
     Ok(spans)
+}
+
+fn push(spans: &mut Vec<Span>, span: Span) -> Result<(), NoMemory>
+    ensures { OnOk result (spans.new.items ≡ spans.old.items ++ span ∷ []) }
+{
+    spans.push(span)?;
+    Ok(())
 }
 
 /// How many bytes stand before the first LF, or in all where there is none.

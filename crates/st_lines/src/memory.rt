@@ -1,5 +1,5 @@
 ghost use Rattle.std.specs.Prelude.{◌≡◌, ◌≤◌, ◌+◌, ◌-◌, ◌^◌, ◌↔◌, [], Some, length, drop, min, IsErr, Contains};
-ghost use Rattle.st_lines.specs.Causes.{HasCause, Rose};
+ghost use Rattle.st_units.specs.Causes.{HasCause, Rose};
 
 use crate::stream::{Failed, Sink, Source};
 use std::alloc::Global;

@@ -1,6 +1,6 @@
 ghost use Rattle.std.specs.Prelude.{ℕ, List, ◌≡◌, ◌++◌, ◌+◌, ◌≤◌, length, [], take, IfOk, OnOk, OnErr};
 ghost use Rattle.std.specs.Io.KnownBytes.{Appends};
-ghost use Rattle.st_lines.specs.Causes.{HasCause};
+ghost use Rattle.st_units.specs.Causes.{HasCause};
 
 use crate::put::put_all;
 use crate::stream::{Failed, Sink};

@@ -1,7 +1,7 @@
 ghost use Rattle.std.specs.Prelude.{◌≡◌, ◌<◌, ℕ, List, Option, length, Ok};
 ghost use Rattle.std.specs.Io.{ReadsAtMost, WritesAtMost};
 ghost use Rattle.std.specs.Io.KnownBytes.{ReadConsumes, WriteAppends};
-ghost use Rattle.st_lines.specs.Causes.{HasCause, Rose};
+ghost use Rattle.st_units.specs.Causes.{HasCause, Rose};
 
 use std::io::{Read, Write};
 use thiserror::Error;
