@@ -1,9 +1,9 @@
 // A book that every thread signs: the numbers of the seats that had a turn.
 ghost use Rattle.std.specs.Prelude.{◌≡◌, [], false, All};
 
-use st_turn::{Logged, Turn, TurnSeat};
+use st_turn::{Logged, Turn, TurnSeat, Vacant};
 use std::alloc::Global;
-use std::sync::Wait;
+use std::sync::{Barrier, Wait};
 use std::thread;
 use std::thread::Threads;
 
@@ -53,6 +53,23 @@ fn sign_often(rt: &impl Wait, turn: &Turn<Roll>, seat: &mut TurnSeat<Roll>, time
     }
 }
 
+/// Signs so often, once every thread has begun.
+fn sign_from(
+    rt: &impl Wait,
+    start: &Barrier,
+    turn: &Turn<Roll>,
+    seat: &mut TurnSeat<Roll>,
+    times: u64,
+)
+    requires here { seat.old.turn ≡ turn.now }
+    requires out { seat.old.is_in ≡ false }
+    ensures here { seat.new.turn ≡ turn.now }
+    ensures out { seat.new.is_in ≡ false }
+{
+    start.wait(rt);
+    sign_often(rt, turn, seat, times)
+}
+
 /// So many further seats, or as many as there is memory for.
 fn split_seats(
     alloc: Global,
@@ -92,7 +109,7 @@ fn join_seats(turn: &Turn<Roll>, one: &mut TurnSeat<Roll>, mut seats: Vec<TurnSe
 }
 
 /// Waits for good: for an outcome that does not come, since every seat was joined. The check follows no list of seats
-/// through the threads, so it does not know that.
+/// through the threads, so it does not know that; and a turn that is still open can't be let go.
 fn stop(rt: &impl Wait) -> ! {
     for _ in rt.forever() {}
     unreachable!()
@@ -108,14 +125,15 @@ pub fn time_turns<R: Threads + Wait + Sync>(
     let roll = Roll {
         seats: Vec::new(alloc),
     };
-    let (turn, mut one) = Turn::make(alloc, roll).ok()?;
+    let (turn, mut one) = Vacant::make(alloc).ok()?.fill(roll);
     let mut seats = split_seats(alloc, &turn, &mut one, threads);
     let count = seats.len().max(1);
+    let start = Barrier::new(count);
     thread::for_each_mut(
         rt,
         &mut seats,
         count,
-        &|_, seat| { sign_often(rt, &turn, seat, times) },
+        &|_, seat| { sign_from(rt, &start, &turn, seat, times) },
     );
     join_seats(&turn, &mut one, seats);
     match turn.close(one) {

@@ -7,10 +7,10 @@ use mathlib.Core.Option.{some, none, some-injective}
 use lib.ListN.{get_elem?}
 use Rattle.atomic_table.specs.Table.{State, Me, keeps, Allows, step, stepped}
 use Rattle.atomic_table.proofs.Lists.{at_set, at_map}
-use Rattle.st_turn.specs.declared.standing.Place.TheVariants.{Out}
-use Rattle.st_turn.specs.declared.standing.Claim.{Claim}
-use Rattle.st_turn.specs.declared.standing.Holding.{Holding}
-use Rattle.st_turn.specs.declared.standing.Standing.{Standing}
+use Rattle.st_turn.specs.declared.knowledge.Place.TheVariants.{Out}
+use Rattle.st_turn.specs.declared.knowledge.Claim.{Claim}
+use Rattle.st_turn.specs.declared.knowledge.Holding.{Holding}
+use Rattle.st_turn.specs.declared.knowledge.Knowledge.{Knowledge}
 use Rattle.st_turn.specs.Lists.{one_if, times, total, number_of}
 use Rattle.st_turn.specs.Parts.{IsAlive, holding_of, claimed, held, IsDealt, Alone, Knows}
 use Rattle.st_turn.specs.Ruling.{IsKept}
@@ -24,7 +24,7 @@ use Rattle.st_turn.proofs.Splits.{pos_append, pos_cases, pos_self}
 
 module _ {B E O : Type 0} (by : E → ℕ) (events : B → List E) (opens : B → O) (fits : B → O → Type 0) where
   abbrev V : Type 0
-  V = Standing E O
+  V = Knowledge E O
 
   abbrev Kept : State (Option B) V → Type 0
   Kept s = IsKept by events fits s

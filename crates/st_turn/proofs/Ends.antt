@@ -8,10 +8,10 @@ use mathlib.Core.List.{IsPrefix}
 use lib.ListN.{get_elem?}
 use Rattle.atomic_table.specs.Table.{State, Me, takes, Allows, step, stepped, Final, Seen}
 use Rattle.atomic_table.proofs.Lists.{at_set, set_here, set_again, at_map}
-use Rattle.st_turn.specs.declared.standing.Place.{Place}
-use Rattle.st_turn.specs.declared.standing.Place.TheVariants.{Out, Last}
-use Rattle.st_turn.specs.declared.standing.Holding.{Holding}
-use Rattle.st_turn.specs.declared.standing.Standing.{Standing}
+use Rattle.st_turn.specs.declared.knowledge.Place.{Place}
+use Rattle.st_turn.specs.declared.knowledge.Place.TheVariants.{Out, Last}
+use Rattle.st_turn.specs.declared.knowledge.Holding.{Holding}
+use Rattle.st_turn.specs.declared.knowledge.Knowledge.{Knowledge}
 use Rattle.st_turn.specs.Lists.{one_if, times, total, Each, told_by, Account}
 use Rattle.st_turn.specs.Parts.{Has, IsIn, IsAlive, place_of, holding_of, held, Tickets, Counts, Family, IsDealt, Knows}
 use Rattle.st_turn.specs.Ruling.{log_of, FitsIn, AtHome, WithSeat, IsKept, blank_view}
@@ -29,7 +29,7 @@ only a (suc i) b h = absurd (some-ne-none b (sym h))
 
 module _ {B E O : Type 0} (by : E → ℕ) (events : B → List E) (opens : B → O) (fits : B → O → Type 0) where
   abbrev V : Type 0
-  V = Standing E O
+  V = Knowledge E O
 
   abbrev Kept : State (Option B) V → Type 0
   Kept s = IsKept by events fits s

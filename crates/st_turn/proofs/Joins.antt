@@ -7,9 +7,9 @@ use mathlib.Core.List.{IsPrefix}
 use lib.ListN.{get_elem?}
 use Rattle.atomic_table.specs.Table.{State, Me, keeps, Allows, Joins, step, stepped}
 use Rattle.atomic_table.proofs.Lists.{at_set, set_else, at_map}
-use Rattle.st_turn.specs.declared.standing.Place.TheVariants.{Out, Last, Spent}
-use Rattle.st_turn.specs.declared.standing.Holding.{Holding}
-use Rattle.st_turn.specs.declared.standing.Standing.{Standing}
+use Rattle.st_turn.specs.declared.knowledge.Place.TheVariants.{Out, Last, Spent}
+use Rattle.st_turn.specs.declared.knowledge.Holding.{Holding}
+use Rattle.st_turn.specs.declared.knowledge.Knowledge.{Knowledge}
 use Rattle.st_turn.specs.Lists.{times, total, Each, longer, number_of}
 use Rattle.st_turn.specs.Parts.{IsIn, IsAlive, place_of, holding_of, claimed, held, Tickets, Counts, Family, IsDealt, Knows}
 use Rattle.st_turn.specs.Ruling.{Where, IsKept, spent_view}
@@ -23,7 +23,7 @@ use Rattle.st_turn.proofs.Logs.{account_joins, unheard_joins}
 
 module _ {B E O : Type 0} (by : E → ℕ) (events : B → List E) (opens : B → O) (fits : B → O → Type 0) where
   abbrev V : Type 0
-  V = Standing E O
+  V = Knowledge E O
 
   abbrev Kept : State (Option B) V → Type 0
   Kept s = IsKept by events fits s

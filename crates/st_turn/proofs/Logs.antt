@@ -5,8 +5,8 @@ use Rattle.std.proofs.lemmas.List.{append-nil}
 use Rattle.std.proofs.lemmas.List.Elements.{filter-append}
 use Rattle.std.specs.Prelude.{Option}
 use mathlib.Core.List.{IsPrefix}
-use Rattle.st_turn.specs.declared.standing.Claim.{Claim}
-use Rattle.st_turn.specs.declared.standing.Standing.{Standing}
+use Rattle.st_turn.specs.declared.knowledge.Claim.{Claim}
+use Rattle.st_turn.specs.declared.knowledge.Knowledge.{Knowledge}
 use Rattle.st_turn.specs.Lists.{one_if, times, told_by, AreBy, number_of, Account, Unheard, grown}
 use Rattle.st_turn.specs.Parts.{held, Knows}
 use Rattle.st_turn.specs.Kinds.{IsOwn}
@@ -77,7 +77,7 @@ module _ {E : Type 0} (by : E → ℕ) where
   unheard_joins log [] b p q = q
   unheard_joins log (n ∷ ns) b p q = (p.0, unheard_joins log ns b p.1 q)
 
-  pub knows_grows : {O : Type 0} (n : ℕ) (log more : List E) (o : Option O) (v : Standing E O) → times n (held v.holding) ≡ 0 → AreBy by n more → Knows by log o v → Knows by (log ++ more) o v
+  pub knows_grows : {O : Type 0} (n : ℕ) (log more : List E) (o : Option O) (v : Knowledge E O) → times n (held v.holding) ≡ 0 → AreBy by n more → Knows by log o v → Knows by (log ++ more) o v
   knows_grows n log more o v z h k =
       let t : times n (held v.holding) ≡ times n (map number_of v.holding.claims) + times n v.holding.drawn = times_append n (map number_of v.holding.claims) v.holding.drawn in
       let a : times n (map number_of v.holding.claims) ≡ 0 = omega (arith, t, z) in

@@ -4,10 +4,10 @@ use native.Mathlib.Decide.{ℕ_discrete}
 use mathlib.Core.Option.{some, some-injective}
 use lib.ListN.{get_elem?}
 use Rattle.atomic_table.proofs.Lists.{at_set, set_else, set_here, at_snoc, at_longer}
-use Rattle.st_turn.specs.declared.standing.Place.{Place}
-use Rattle.st_turn.specs.declared.standing.Place.TheVariants.{Out, Waiting, InTurn}
-use Rattle.st_turn.specs.declared.standing.Holding.{Holding}
-use Rattle.st_turn.specs.declared.standing.Standing.{Standing}
+use Rattle.st_turn.specs.declared.knowledge.Place.{Place}
+use Rattle.st_turn.specs.declared.knowledge.Place.TheVariants.{Out, Waiting, InTurn}
+use Rattle.st_turn.specs.declared.knowledge.Holding.{Holding}
+use Rattle.st_turn.specs.declared.knowledge.Knowledge.{Knowledge}
 use Rattle.st_turn.specs.Lists.{one_if, times, Each}
 use Rattle.st_turn.specs.Parts.{Has, IsIn, IsAlive, claimed, held, Tickets, Counts, Family, Alone}
 use Rattle.st_turn.proofs.Totals.{inside, total_set, total_snoc, below_more}
@@ -183,12 +183,12 @@ module _ {E : Type 0} where
       ]
 
 module _ {E O : Type 0} where
-  pub alone_set : (vs : List (Standing E O)) (id : ℕ) (v w : Standing E O) → get_elem? vs id ≡ some v → IsAlive v.place → (w.holding.alone ≡ true → v.holding.alone ≡ true) → Alone vs → Alone (set vs id w)
+  pub alone_set : (vs : List (Knowledge E O)) (id : ℕ) (v w : Knowledge E O) → get_elem? vs id ≡ some v → IsAlive v.place → (w.holding.alone ≡ true → v.holding.alone ≡ true) → Alone vs → Alone (set vs id w)
   alone_set vs id v w at alive keep k i j a b hi hj is ne living =
       elim (at_set vs id i w a hi) [
         | inl e ↦ elim (at_set vs id j w b hj) [
           | inl f ↦ ne (f.0 ∙ sym e.0)
-          | inr f ↦ k id j v b at f.1 (keep (ap (λ (z : Standing E O). z.holding.alone) e.1 ∙ is)) f.0 living
+          | inr f ↦ k id j v b at f.1 (keep (ap (λ (z : Knowledge E O). z.holding.alone) e.1 ∙ is)) f.0 living
         ]
         | inr e ↦ elim (at_set vs id j w b hj) [
           | inl f ↦ k i id a v e.1 at is (λ q. e.0 (sym q)) alive
@@ -197,12 +197,12 @@ module _ {E O : Type 0} where
       ]
 
   -- where nobody is alone
-  pub alone_none : (vs : List (Standing E O)) → ((i : ℕ) (v : Standing E O) → get_elem? vs i ≡ some v → v.holding.alone ≡ true → ⊥) → Alone vs
+  pub alone_none : (vs : List (Knowledge E O)) → ((i : ℕ) (v : Knowledge E O) → get_elem? vs i ≡ some v → v.holding.alone ≡ true → ⊥) → Alone vs
   alone_none vs h i j a b hi hj is ne living = h i a hi is
 
   -- beside a living seat that isn't alone nobody is
-  pub nobody : (vs : List (Standing E O)) (id : ℕ) (v w : Standing E O) → get_elem? vs id ≡ some v → IsAlive v.place → w.holding.alone ≡ false → Alone vs → (i : ℕ) (a : Standing E O) → get_elem? (set vs id w) i ≡ some a → a.holding.alone ≡ true → ⊥
+  pub nobody : (vs : List (Knowledge E O)) (id : ℕ) (v w : Knowledge E O) → get_elem? vs id ≡ some v → IsAlive v.place → w.holding.alone ≡ false → Alone vs → (i : ℕ) (a : Knowledge E O) → get_elem? (set vs id w) i ≡ some a → a.holding.alone ≡ true → ⊥
   nobody vs id v w at alive not k i a h is = elim (at_set vs id i w a h) [
-    | inl e ↦ (let x : w.holding.alone ≡ a.holding.alone = ap (λ (z : Standing E O). z.holding.alone) e.1 in let y : true ≡ false = sym is ∙ (sym x ∙ not) in cc)
+    | inl e ↦ (let x : w.holding.alone ≡ a.holding.alone = ap (λ (z : Knowledge E O). z.holding.alone) e.1 in let y : true ≡ false = sym is ∙ (sym x ∙ not) in cc)
     | inr e ↦ k i id a v e.1 at is (λ q. e.0 (sym q)) alive
   ]

@@ -5,10 +5,10 @@ use Rattle.std.proofs.lemmas.List.{append-nil}
 use Rattle.std.specs.Prelude.{Option, Some, None}
 use Rattle.atomic_table.specs.Seated.{TableId}
 use Rattle.atomic_table.specs.Table.{Me}
-use Rattle.st_turn.specs.declared.standing.Place.{Place}
-use Rattle.st_turn.specs.declared.standing.Place.TheVariants.{Out, Waiting, InTurn, Last, Spent}
-use Rattle.st_turn.specs.declared.standing.Claim.{Claim}
-use Rattle.st_turn.specs.declared.standing.Standing.{Standing}
+use Rattle.st_turn.specs.declared.knowledge.Place.{Place}
+use Rattle.st_turn.specs.declared.knowledge.Place.TheVariants.{Out, Waiting, InTurn, Last, Spent}
+use Rattle.st_turn.specs.declared.knowledge.Claim.{Claim}
+use Rattle.st_turn.specs.declared.knowledge.Knowledge.{Knowledge}
 use Rattle.st_turn.specs.Lists.{IsAmong, AreAmong, told_by, number_of}
 use Rattle.st_turn.specs.Parts.{held}
 use Rattle.st_turn.specs.Views.{SeatView, Fits, GoesOn, numbers_of}
@@ -26,7 +26,7 @@ module _ {B E O : Type 0} (by : E → ℕ) (events : B → List E) (opens : B �
   fits_still None b is_open fit = absurd is_open
 
   -- what a caller of put shows is what the rule asks
-  pub may_leave : (id : TableId) (number claimed : ℕ) (v : Standing E O) (old : SeatView E O) (b : B) (more : List E) → IsSeated v number claimed → seat_view id number v ≡ old → GoesOn by events fits old b more → MayLeave by events opens fits v b
+  pub may_leave : (id : TableId) (number claimed : ℕ) (v : Knowledge E O) (old : SeatView E O) (b : B) (more : List E) → IsSeated v number claimed → seat_view id number v ≡ old → GoesOn by events fits old b more → MayLeave by events opens fits v b
   may_leave id number claimed v old b more seated is goes =
       let g : GoesOn by events fits (seat_view id number v) b more = subst (λ (z : SeatView E O). GoesOn by events fits z b more) (sym is) goes in
       record { more = more; number = number; goes = g.goes; own = seated.own; are = g.own; fit = fits_still v.opening b seated.opened g.fitting }
@@ -36,7 +36,7 @@ long_map f [] = refl
 long_map f (x ∷ xs) = let h : length (map f xs) ≡ length xs = long_map f xs in omega (arith, h)
 
 -- how many numbers a seat answers for
-pub count_is : {E O : Type 0} (v : Standing E O) (number claimed : ℕ) → IsSeated v number claimed → length (held v.holding) ≡ claimed
+pub count_is : {E O : Type 0} (v : Knowledge E O) (number claimed : ℕ) → IsSeated v number claimed → length (held v.holding) ≡ claimed
 count_is v number claimed s =
     let names : List ℕ = map number_of v.holding.claims in
     let a : length (names ++ v.holding.drawn) ≡ length names + length v.holding.drawn = length-append names v.holding.drawn in
@@ -46,7 +46,7 @@ count_is v number claimed s =
     omega (arith, a, b, d, e)
 
 -- they are its own number and those that it took over
-pub numbers_are : {E O : Type 0} (id : TableId) (number claimed : ℕ) (v : Standing E O) → IsSeated v number claimed → held v.holding ≡ numbers_of (seat_view id number v)
+pub numbers_are : {E O : Type 0} (id : TableId) (number claimed : ℕ) (v : Knowledge E O) → IsSeated v number claimed → held v.holding ≡ numbers_of (seat_view id number v)
 numbers_are {E} id number claimed v s =
     let go : (cs : List (Claim E)) → IsOwn number cs → map number_of cs ≡ number ∷ map number_of (other_claims cs) = elim [
       | [] ↦ (λ own. absurd own)
@@ -75,14 +75,14 @@ module _ {E : Type 0} (by : E → ℕ) where
       ] in
       (first, are_among ns es rest)
 
-  pub seat_among : {O : Type 0} (id : TableId) (number claimed : ℕ) (v u : Standing E O) (old : SeatView E O) (es : List E) → IsSeated v number claimed → seat_view id number v ≡ old → held u.holding ≡ held v.holding
+  pub seat_among : {O : Type 0} (id : TableId) (number claimed : ℕ) (v u : Knowledge E O) (old : SeatView E O) (es : List E) → IsSeated v number claimed → seat_view id number v ≡ old → held u.holding ≡ held v.holding
       → ((y : ℕ) → IsAmong y (held u.holding) ⊎ (told_by by y es ≡ [])) → AreAmong by (numbers_of old) es
   seat_among {O} id number claimed v u old es s is same h =
       let e : held u.holding ≡ numbers_of old = same ∙ (numbers_are id number claimed v s ∙ ap (numbers_of {E = E} {O = O}) is) in
       subst (λ (ns : List ℕ). AreAmong by ns es) e (are_among (held u.holding) es h)
 
 -- a seat that isn't in its turn is out, and holds nothing
-pub out_of : {B E O : Type 0} (id : TableId) (number : ℕ) (last : Bool) (m : Me (Option B) (Standing E O)) (old : SeatView E O) → Holds last m.0.place m.1 → seat_view id number m.0 ≡ old → old.is_in ≡ false → (m.0.place ≡ Out) × (m.1 ≡ [])
+pub out_of : {B E O : Type 0} (id : TableId) (number : ℕ) (last : Bool) (m : Me (Option B) (Knowledge E O)) (old : SeatView E O) → Holds last m.0.place m.1 → seat_view id number m.0 ≡ old → old.is_in ≡ false → (m.0.place ≡ Out) × (m.1 ≡ [])
 out_of {B} {E} {O} id number last m old holds is out =
     let is_out : is_in_turn m.0.place ≡ false = ap (λ (z : SeatView E O). z.is_in) is ∙ out in
     let go : (p : Place) (l : List (ℕ × Option B)) → Holds last p l → is_in_turn p ≡ false → (p ≡ Out) × (l ≡ []) = elim [

@@ -8,9 +8,9 @@ use lib.ListN.{get_elem?}
 use prog.Atomic.{either}
 use Rattle.atomic_table.specs.Table.{State, Me, Act, keeps, Valid, Allows, Splits, step, stepped, carried_after}
 use Rattle.atomic_table.proofs.Lists.{at_snoc, at_longer, at_map}
-use Rattle.st_turn.specs.declared.standing.Place.TheVariants.{Out, Last}
-use Rattle.st_turn.specs.declared.standing.Claim.{Claim}
-use Rattle.st_turn.specs.declared.standing.Standing.{Standing}
+use Rattle.st_turn.specs.declared.knowledge.Place.TheVariants.{Out, Last}
+use Rattle.st_turn.specs.declared.knowledge.Claim.{Claim}
+use Rattle.st_turn.specs.declared.knowledge.Knowledge.{Knowledge}
 use Rattle.st_turn.specs.Lists.{one_if, times, Each, number_of, Unheard}
 use Rattle.st_turn.specs.Parts.{IsIn, IsAlive, place_of, holding_of, held, Tickets, Counts, Family, IsDealt, Knows}
 use Rattle.st_turn.specs.Ruling.{AtHome, WithSeat, IsKept}
@@ -43,7 +43,7 @@ pos_self x xs = let o : one_if (x == x) ≡ 1 = once_itself x in omega (arith, o
 
 module _ {B E O : Type 0} (by : E → ℕ) (events : B → List E) (opens : B → O) (fits : B → O → Type 0) where
   abbrev V : Type 0
-  V = Standing E O
+  V = Knowledge E O
 
   abbrev Kept : State (Option B) V → Type 0
   Kept s = IsKept by events fits s

@@ -9,10 +9,10 @@ use lib.ListN.{get_elem?}
 use prog.Atomic.{either}
 use Rattle.atomic_table.specs.Table.{State, Me, Act, keeps, takes, gives, Valid, Allows, step, stepped, carried_after, rest}
 use Rattle.atomic_table.proofs.Lists.{at_set, set_else, set_here, set_again, at_map}
-use Rattle.st_turn.specs.declared.standing.Place.{Place}
-use Rattle.st_turn.specs.declared.standing.Place.TheVariants.{Out, Waiting, InTurn, Last, Spent}
-use Rattle.st_turn.specs.declared.standing.Holding.{Holding}
-use Rattle.st_turn.specs.declared.standing.Standing.{Standing}
+use Rattle.st_turn.specs.declared.knowledge.Place.{Place}
+use Rattle.st_turn.specs.declared.knowledge.Place.TheVariants.{Out, Waiting, InTurn, Last, Spent}
+use Rattle.st_turn.specs.declared.knowledge.Holding.{Holding}
+use Rattle.st_turn.specs.declared.knowledge.Knowledge.{Knowledge}
 use Rattle.st_turn.specs.Lists.{one_if, times, total, Each, told_by, AreBy, number_of, Account, grown}
 use Rattle.st_turn.specs.Parts.{IsIn, IsAlive, place_of, holding_of, claimed, held, Tickets, Counts, Family, IsDealt, Alone, Knows}
 use Rattle.st_turn.specs.Ruling.{log_of, FitsIn, Where, AtHome, WithSeat, IsKept}
@@ -31,7 +31,7 @@ alive_waiting p n e = subst IsAlive (sym e) tt
 
 module _ {B E O : Type 0} (by : E → ℕ) (events : B → List E) (opens : B → O) (fits : B → O → Type 0) where
   abbrev V : Type 0
-  V = Standing E O
+  V = Knowledge E O
 
   abbrev Kept : State (Option B) V → Type 0
   Kept s = IsKept by events fits s

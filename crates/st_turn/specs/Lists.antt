@@ -3,7 +3,7 @@ use Rattle.std.specs.Prelude.{ℕ, ◌≡◌, ◌+◌, ◌<◌, ◌==◌, Bool, 
 use Rattle.std.specs.List.{filter}
 use mathlib.Core.Option.{some}
 use lib.ListN.{get_elem?}
-use Rattle.st_turn.specs.declared.standing.Claim.{Claim}
+use Rattle.st_turn.specs.declared.knowledge.Claim.{Claim}
 
 abbrev pub one_if : Bool → ℕ
 one_if true = 1

@@ -3,10 +3,10 @@ use Rattle.std.specs.Prelude.{ℕ, ◌≡◌, ◌≢◌, ◌<◌, ◌≤◌, tru
 use mathlib.Core.Option.{some}
 use mathlib.Core.List.{IsPrefix}
 use lib.ListN.{get_elem?}
-use Rattle.st_turn.specs.declared.standing.Place.{Place}
-use Rattle.st_turn.specs.declared.standing.Place.TheVariants.{Out, Waiting, InTurn, Last, Spent}
-use Rattle.st_turn.specs.declared.standing.Holding.{Holding}
-use Rattle.st_turn.specs.declared.standing.Standing.{Standing}
+use Rattle.st_turn.specs.declared.knowledge.Place.{Place}
+use Rattle.st_turn.specs.declared.knowledge.Place.TheVariants.{Out, Waiting, InTurn, Last, Spent}
+use Rattle.st_turn.specs.declared.knowledge.Holding.{Holding}
+use Rattle.st_turn.specs.declared.knowledge.Knowledge.{Knowledge}
 use Rattle.st_turn.specs.Lists.{IsAmong, times, total, one_if, Account, Unheard, number_of}
 
 -- the place has this ticket
@@ -33,10 +33,10 @@ IsAlive (InTurn u) = Unit {0}
 IsAlive Last = Unit {0}
 IsAlive Spent = ⊥
 
-abbrev pub place_of : {E O : Type 0} → Standing E O → Place
+abbrev pub place_of : {E O : Type 0} → Knowledge E O → Place
 place_of v = v.place
 
-abbrev pub holding_of : {E O : Type 0} → Standing E O → Holding E
+abbrev pub holding_of : {E O : Type 0} → Knowledge E O → Holding E
 holding_of v = v.holding
 
 -- the numbers that a seat answers for
@@ -82,11 +82,11 @@ pub record IsDealt {E : Type 0} (dealt : ℕ) (h : Holding E) : Type 0 where
   pub counted : h.counted ≤ dealt
 
 -- Alone: where a seat knows that it is alone, every other is spent. So it may take the book without waiting, and end the turn.
-abbrev pub Alone : {E O : Type 0} → List (Standing E O) → Type 0
-Alone {E} {O} views = (i j : ℕ) (v w : Standing E O) → get_elem? views i ≡ some v → get_elem? views j ≡ some w → v.holding.alone ≡ true → j ≢ i → IsAlive w.place → ⊥
+abbrev pub Alone : {E O : Type 0} → List (Knowledge E O) → Type 0
+Alone {E} {O} views = (i j : ℕ) (v w : Knowledge E O) → get_elem? views i ≡ some v → get_elem? views j ≡ some w → v.holding.alone ≡ true → j ≢ i → IsAlive w.place → ⊥
 
 -- What is said of one view.
-pub record Knows {E O : Type 0} (by : E → ℕ) (log : List E) (opening : Option O) (v : Standing E O) : Type 0 where
+pub record Knows {E O : Type 0} (by : E → ℕ) (log : List E) (opening : Option O) (v : Knowledge E O) : Type 0 where
   -- the log begins with what it has seen, and with what a seat that it just took in had seen: nothing that a seat knows is undone
   pub seen : IsPrefix v.seen log
   pub also : IsPrefix v.also log

@@ -3,9 +3,9 @@ use Rattle.std.specs.Prelude.{ℕ, ◌≡◌, ◌<◌, ◌≤◌, ◌^◌, true,
 use mathlib.Core.Option.{some}
 use lib.ListN.{get_elem?}
 use Rattle.atomic_table.specs.Table.{State}
-use Rattle.st_turn.specs.declared.standing.Place.{Place}
-use Rattle.st_turn.specs.declared.standing.Place.TheVariants.{Out, Spent}
-use Rattle.st_turn.specs.declared.standing.Standing.{Standing}
+use Rattle.st_turn.specs.declared.knowledge.Place.{Place}
+use Rattle.st_turn.specs.declared.knowledge.Place.TheVariants.{Out, Spent}
+use Rattle.st_turn.specs.declared.knowledge.Knowledge.{Knowledge}
 use Rattle.st_turn.specs.Lists.{Each, told_by}
 use Rattle.st_turn.specs.Parts.{IsIn, place_of, holding_of, Tickets, Counts, Family, IsDealt, Alone, Knows}
 
@@ -23,11 +23,11 @@ FitsIn fits None None = Unit {0}
 
 -- The log is the list of the book at home; while the book is out with the seat in its turn, the log is what that seat has seen, since it saw the whole list when it took the book.
 -- So all that is said of the log stands in a turn too, and no view is excepted.
-pub data Where {B E O : Type 0} (events : B → List E) (fits : B → O → Type 0) (s : State (Option B) (Standing E O)) (log : List E) (opening : Option O) : Type 0 where
+pub data Where {B E O : Type 0} (events : B → List E) (fits : B → O → Type 0) (s : State (Option B) (Knowledge E O)) (log : List E) (opening : Option O) : Type 0 where
   AtHome : (x : Option B) → get_elem? s.homes 0 ≡ some (some x) → log ≡ log_of events x → FitsIn fits opening x → ((i : ℕ) (p : Place) → get_elem? (map place_of s.views) i ≡ some p → IsIn p → ⊥) → Where events fits s log opening
-  WithSeat : (i : ℕ) (v : Standing E O) → get_elem? s.views i ≡ some v → IsIn v.place → v.seen ≡ log → ((j : ℕ) (p : Place) → get_elem? (map place_of s.views) j ≡ some p → IsIn p → j ≡ i) → Where events fits s log opening
+  WithSeat : (i : ℕ) (v : Knowledge E O) → get_elem? s.views i ≡ some v → IsIn v.place → v.seen ≡ log → ((j : ℕ) (p : Place) → get_elem? (map place_of s.views) j ≡ some p → IsIn p → j ≡ i) → Where events fits s log opening
 
-pub record IsKept {B E O : Type 0} (by : E → ℕ) (events : B → List E) (fits : B → O → Type 0) (s : State (Option B) (Standing E O)) : Type 0 where
+pub record IsKept {B E O : Type 0} (by : E → ℕ) (events : B → List E) (fits : B → O → Type 0) (s : State (Option B) (Knowledge E O)) : Type 0 where
   -- the next ticket, the ticket that is served, and how many numbers were dealt
   pub ticket : ℕ
   pub serving : ℕ
@@ -49,9 +49,9 @@ pub record IsKept {B E O : Type 0} (by : E → ℕ) (events : B → List E) (fit
   pub known : Each (IsDealt dealt) (map holding_of s.views)
 
 -- the seat of a table just made: the number 0 is dealt to it, and it is alone
-abbrev pub blank_view : {E O : Type 0} → Standing E O
+abbrev pub blank_view : {E O : Type 0} → Knowledge E O
 blank_view = record { place = Out; holding = record { claims = (record { number = 0; events = [] }) ∷ []; drawn = []; made = []; counted = 1; alone = true }; seen = []; also = []; opening = None }
 
 -- a seat that was joined into another; it holds nothing, so whatever is said of views is true of it
-abbrev pub spent_view : {E O : Type 0} → Standing E O
+abbrev pub spent_view : {E O : Type 0} → Knowledge E O
 spent_view = record { place = Spent; holding = record { claims = []; drawn = []; made = []; counted = 0; alone = false }; seen = []; also = []; opening = None }

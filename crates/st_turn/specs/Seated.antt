@@ -2,10 +2,10 @@
 use Rattle.std.specs.Prelude.{ℕ, ◌≡◌, Bool, true, false, List, [], ◌∷◌, length, Option, Some, None}
 use Rattle.atomic_table.specs.Table.{Me}
 use Rattle.atomic_table.specs.Seated.{TableId}
-use Rattle.st_turn.specs.declared.standing.Place.{Place}
-use Rattle.st_turn.specs.declared.standing.Place.TheVariants.{Out, Waiting, InTurn, Last, Spent}
-use Rattle.st_turn.specs.declared.standing.Claim.{Claim}
-use Rattle.st_turn.specs.declared.standing.Standing.{Standing}
+use Rattle.st_turn.specs.declared.knowledge.Place.{Place}
+use Rattle.st_turn.specs.declared.knowledge.Place.TheVariants.{Out, Waiting, InTurn, Last, Spent}
+use Rattle.st_turn.specs.declared.knowledge.Claim.{Claim}
+use Rattle.st_turn.specs.declared.knowledge.Knowledge.{Knowledge}
 use Rattle.st_turn.specs.Views.{SeatView}
 use Rattle.st_turn.specs.Ruling.{blank_view}
 use Rattle.st_turn.specs.Kinds.{IsOwn}
@@ -26,7 +26,7 @@ abbrev pub other_claims : {E : Type 0} → List (Claim E) → List (Claim E)
 other_claims [] = []
 other_claims (c ∷ cs) = cs
 
-abbrev pub seat_view : {E O : Type 0} → TableId → ℕ → Standing E O → SeatView E O
+abbrev pub seat_view : {E O : Type 0} → TableId → ℕ → Knowledge E O → SeatView E O
 seat_view id number v = record {
   turn = id;
   number = number;
@@ -52,17 +52,17 @@ IsOpen (Some o) = Unit {0}
 IsOpen None = ⊥
 
 -- a view between calls, whose first claim is of the seat's number
-pub record IsSeated {E O : Type 0} (v : Standing E O) (number claimed : ℕ) : Type 0 where
+pub record IsSeated {E O : Type 0} (v : Knowledge E O) (number claimed : ℕ) : Type 0 where
   pub own : IsOwn number v.holding.claims
   pub count : claimed ≡ length v.holding.claims
   pub drawn : v.holding.drawn ≡ []
   pub opened : IsOpen v.opening
   pub also : v.also ≡ []
 
-pub record IsSeat {B E O : Type 0} (m : Me (Option B) (Standing E O)) (number claimed : ℕ) (last : Bool) : Type 0 where
+pub record IsSeat {B E O : Type 0} (m : Me (Option B) (Knowledge E O)) (number claimed : ℕ) (last : Bool) : Type 0 where
   pub holds : Holds last m.0.place m.1
   pub seated : IsSeated m.0 number claimed
 
 -- the first view once the first book is in
-abbrev pub start_view : {E O : Type 0} → O → Standing E O
+abbrev pub start_view : {E O : Type 0} → O → Knowledge E O
 start_view o = record blank_view { opening = Some o }

@@ -2,14 +2,14 @@
 use Rattle.std.specs.Prelude.{ℕ, ◌≡◌, ◌+◌, Bool, true, false, List, [], ◌∷◌, ◌++◌, map, drop, length, max, Option, Some}
 use mathlib.Core.List.{IsPrefix}
 use Rattle.atomic_table.specs.Seated.{TableId}
-use Rattle.st_turn.specs.declared.standing.Claim.{Claim}
+use Rattle.st_turn.specs.declared.knowledge.Claim.{Claim}
 use Rattle.st_turn.specs.Lists.{IsAmong, told_by, AreBy, Account, number_of, longer}
 
 -- a seat
 pub record SeatView (E O : Type 0) : Type 0 where
   -- the turn that it is of
   pub turn : TableId
-  -- its number, which no other seat has
+  -- its number: 0, or the one that its split drew
   pub number : ℕ
   -- the book is out with it
   pub is_in : Bool

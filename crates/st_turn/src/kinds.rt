@@ -1,7 +1,7 @@
 // The rule of the turn's table, and the kinds of step.
 // The words are the next ticket, the ticket that is served, and how many numbers were dealt; the slot is the book's.
+use crate::knowledge::Knowledge;
 use crate::logged::Logged;
-use crate::standing::Standing;
 use atomic_table::{Join, Play, Split, TableRule};
 use std::marker::PhantomData;
 
@@ -15,7 +15,7 @@ pub struct TurnRule<B> {
     of: PhantomData<B>,
 }
 
-impl<B: Logged> TableRule<Option<B>, Standing<B::Event, B::Opening>, ()> for TurnRule<B> {
+impl<B: Logged> TableRule<Option<B>, Knowledge<B::Event, B::Opening>, ()> for TurnRule<B> {
     ghost use Rattle.st_turn.specs.Ruling.{IsKept, blank_view};
 
     ghost holds = { λ k s. IsKept B.by B.events B.fits s };
@@ -26,7 +26,7 @@ impl<B: Logged> TableRule<Option<B>, Standing<B::Event, B::Opening>, ()> for Tur
 /// Draws a ticket, where nobody was faster.
 pub struct Draw;
 
-impl<B, E, O> Play<Option<B>, Standing<E, O>> for Draw {
+impl<B, E, O> Play<Option<B>, Knowledge<E, O>> for Draw {
     ghost use Rattle.st_turn.specs.Kinds.{Drew};
 
     ghost then = { Drew };
@@ -37,7 +37,7 @@ pub struct Enter<B> {
     of: PhantomData<B>,
 }
 
-impl<B: Logged> Play<Option<B>, Standing<B::Event, B::Opening>> for Enter<B> {
+impl<B: Logged> Play<Option<B>, Knowledge<B::Event, B::Opening>> for Enter<B> {
     ghost use Rattle.st_turn.specs.Kinds.{Enters};
 
     ghost then = { Enters B.by B.events B.fits };
@@ -48,7 +48,7 @@ pub struct Leave<B> {
     of: PhantomData<B>,
 }
 
-impl<B: Logged> Play<Option<B>, Standing<B::Event, B::Opening>> for Leave<B> {
+impl<B: Logged> Play<Option<B>, Knowledge<B::Event, B::Opening>> for Leave<B> {
     ghost use Rattle.st_turn.specs.Kinds.{Leaves};
 
     ghost then = { Leaves B.events B.opens };
@@ -57,7 +57,7 @@ impl<B: Logged> Play<Option<B>, Standing<B::Event, B::Opening>> for Leave<B> {
 /// Draws the number for a further seat, where nobody was faster.
 pub struct Number;
 
-impl<B, E, O> Play<Option<B>, Standing<E, O>> for Number {
+impl<B, E, O> Play<Option<B>, Knowledge<E, O>> for Number {
     ghost use Rattle.st_turn.specs.Kinds.{Numbered};
 
     ghost then = { Numbered };
@@ -66,7 +66,7 @@ impl<B, E, O> Play<Option<B>, Standing<E, O>> for Number {
 /// Sees how many numbers were dealt, and whether all are the seat's.
 pub struct Count;
 
-impl<B, E, O> Play<Option<B>, Standing<E, O>> for Count {
+impl<B, E, O> Play<Option<B>, Knowledge<E, O>> for Count {
     ghost use Rattle.st_turn.specs.Kinds.{Counted};
 
     ghost then = { Counted };
@@ -77,7 +77,7 @@ pub struct TakeLast<B> {
     of: PhantomData<B>,
 }
 
-impl<B: Logged> Play<Option<B>, Standing<B::Event, B::Opening>> for TakeLast<B> {
+impl<B: Logged> Play<Option<B>, Knowledge<B::Event, B::Opening>> for TakeLast<B> {
     ghost use Rattle.st_turn.specs.Kinds.{TakesLast};
 
     ghost then = { TakesLast B.by B.events B.fits };
@@ -86,7 +86,7 @@ impl<B: Logged> Play<Option<B>, Standing<B::Event, B::Opening>> for TakeLast<B> 
 /// Keeps the longer of what the seat and the one that it took in have seen.
 pub struct Tell;
 
-impl<B, E, O> Play<Option<B>, Standing<E, O>> for Tell {
+impl<B, E, O> Play<Option<B>, Knowledge<E, O>> for Tell {
     ghost use Rattle.st_turn.specs.Kinds.{Tells};
 
     ghost then = { Tells };
@@ -95,7 +95,7 @@ impl<B, E, O> Play<Option<B>, Standing<E, O>> for Tell {
 /// A new seat with the number that was drawn.
 pub struct Halve;
 
-impl<E, O> Split<Standing<E, O>> for Halve {
+impl<E, O> Split<Knowledge<E, O>> for Halve {
     ghost use Rattle.st_turn.specs.Kinds.{left_of, right_of};
 
     ghost left = { left_of };
@@ -106,7 +106,7 @@ impl<E, O> Split<Standing<E, O>> for Halve {
 /// One seat answers for what two answered for.
 pub struct Unite;
 
-impl<E, O> Join<Standing<E, O>> for Unite {
+impl<E, O> Join<Knowledge<E, O>> for Unite {
     ghost use Rattle.st_turn.specs.Kinds.{both_of};
     ghost use Rattle.st_turn.specs.Ruling.{spent_view};
 

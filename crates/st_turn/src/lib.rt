@@ -8,15 +8,15 @@
 
 mod ending;
 mod kinds;
+mod knowledge;
 mod logged;
 mod parting;
 mod seat;
-mod standing;
 mod steps;
 mod turn;
 mod waiting;
 
+pub use knowledge::Claim;
 pub use logged::Logged;
-pub use seat::{NoMemory, SeatOf, TurnSeat};
-pub use standing::Claim;
+pub use seat::{SeatOf, TurnSeat};
 pub use turn::{Turn, Vacant};

@@ -1,15 +1,16 @@
 // Seats are split off and joined.
 ghost use Rattle.std.specs.Prelude.{◌≡◌, ◌+◌, ◌-◌, ◌^◌, ◌≤◌, false, IfOk, OnErr, IfSome, IfNone, [], ◌∷◌};
 ghost use mathlib.Core.List.{IsPrefix};
-ghost use Rattle.st_turn.specs.declared.standing.Place.TheVariants.{Out};
+ghost use Rattle.st_turn.specs.declared.knowledge.Place.TheVariants.{Out};
 ghost use Rattle.st_turn.specs.Views.{after_split, new_seat, after_join};
 ghost use Rattle.st_turn.specs.Kinds.{SameBut};
 
 use crate::kinds::Halve;
 use crate::logged::Logged;
-use crate::seat::{NoMemory, SeatOf, TurnSeat};
+use crate::seat::{SeatOf, TurnSeat};
 use crate::steps::{TableSeat, TurnTable, count, draw_number, unite};
 use crate::turn::Turn;
+use st_units::NoMemory;
 
 /// Draws the next number, or None where all are dealt. Another round comes only where another seat drew a number.
 fn draw_next<B: Logged>(table: &TurnTable<B>, seat: &mut TableSeat<B>) -> Option<u64>

@@ -1,19 +1,15 @@
 ghost use Rattle.std.specs.Prelude.{◌≡◌};
 
+use crate::knowledge::Knowledge;
 use crate::logged::Logged;
-use crate::standing::Standing;
 use atomic_table::Seat;
 use std::marker::Model;
-
-/// Memory ran out.
-#[derive(Clone, Copy, Debug, PartialEq, Eq)]
-pub struct NoMemory;
 
 /// A seat of a turn, for one thread at a time: `TurnSeat` says it of a book.
 ///
 /// Contracts see it as a `SeatView`. It is not `Drop`, so none is lost by mistake: it ends by `join` or `close`.
 pub struct SeatOf<B, E, O> {
-    pub(crate) seat: Seat<Option<B>, Standing<E, O>>,
+    pub(crate) seat: Seat<Option<B>, Knowledge<E, O>>,
     pub(crate) number: u64,
     // How many numbers it answers for.
     pub(crate) claimed: u64,
@@ -37,7 +33,7 @@ impl<B, E, O> Model for SeatOf<B, E, O> {
 }
 
 impl<B, E, O> SeatOf<B, E, O> {
-    /// The seat's number: 0 for the first seat, and no two seats of a turn have the same.
+    /// The seat's number: 0 for the first seat, and for another the one that its split drew.
     pub fn number(&self) -> u64
         ensures { result ≡ self.now.number }
     {

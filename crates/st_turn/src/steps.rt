@@ -1,7 +1,7 @@
 // One function for each kind of step, over the table and the seat of it.
 ghost use Rattle.std.specs.Prelude.{ℕ, OnOk, OnErr, ◌≡◌, ◌==◌, true, MatchBool, ◌<◌, ◌≤◌, ◌-◌, ◌^◌, ◌⊎◌, [], ◌∷◌, IfSome, IfNone, IfOk, IfErr, None, Some, length};
 ghost use mathlib.Core.List.{IsPrefix};
-ghost use Rattle.st_turn.specs.declared.standing.Place.TheVariants.{Out, Waiting, InTurn, Last};
+ghost use Rattle.st_turn.specs.declared.knowledge.Place.TheVariants.{Out, Waiting, InTurn, Last};
 ghost use Rattle.st_turn.specs.Lists.{IsAmong, told_by, longer};
 ghost use Rattle.st_turn.specs.Parts.{held, claimed};
 ghost use Rattle.st_turn.specs.Views.{HasAll};
@@ -12,18 +12,18 @@ ghost use Rattle.st_turn.specs.Seated.{IsOpen};
 use crate::kinds::{
     Count, DEALT, Draw, Enter, Leave, Number, SERVING, TICKET, TakeLast, Tell, TurnRule, Unite,
 };
+use crate::knowledge::Knowledge;
 use crate::logged::Logged;
-use crate::standing::Standing;
 use atomic_table::{Seat, Shared, Table};
 use std::alloc::Global;
 
 /// A seat of the table.
-pub type TableSeat<B> = Seat<Option<B>, Standing<<B as Logged>::Event, <B as Logged>::Opening>>;
+pub type TableSeat<B> = Seat<Option<B>, Knowledge<<B as Logged>::Event, <B as Logged>::Opening>>;
 
 /// The table as threads see it.
 pub type TurnTable<B> = Shared<
     Option<B>,
-    Standing<<B as Logged>::Event, <B as Logged>::Opening>,
+    Knowledge<<B as Logged>::Event, <B as Logged>::Opening>,
     (),
     TurnRule<B>,
 >;
@@ -31,7 +31,7 @@ pub type TurnTable<B> = Shared<
 /// The table with its memory.
 pub type OwnTable<B> = Table<
     Option<B>,
-    Standing<<B as Logged>::Event, <B as Logged>::Opening>,
+    Knowledge<<B as Logged>::Event, <B as Logged>::Opening>,
     (),
     TurnRule<B>,
     Global,
@@ -206,7 +206,7 @@ pub fn end_empty<B: Logged>(table: OwnTable<B>, seat: TableSeat<B>)
     let home = closed.take(0);
     closed.free();
     match home {
-        None => {}
+        None => (),
         Some(_book) => unreachable!(),
     }
 }

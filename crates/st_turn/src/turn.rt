@@ -4,12 +4,13 @@ ghost use Rattle.st_turn.specs.Ruling.{blank_view};
 ghost use Rattle.st_turn.specs.Seated.{start_view};
 
 use crate::kinds::TurnRule;
+use crate::knowledge::Knowledge;
 use crate::logged::Logged;
-use crate::seat::{NoMemory, SeatOf, TurnSeat};
-use crate::standing::Standing;
+use crate::seat::{SeatOf, TurnSeat};
 use crate::steps::{OwnTable, TableSeat, TurnTable, end_empty, leave_last, leave_turn, take_alone};
 use crate::waiting::{draw_ticket, wait_turn, wake};
 use atomic_table::Table;
+use st_units::NoMemory;
 use std::alloc::Global;
 use std::marker::Model;
 use std::sync::Wait;
@@ -18,7 +19,7 @@ use std::sync::Wait;
 ///
 /// Contracts see a turn as the name that its seats have in `turn`. Share it by reference, or in an `Arc`.
 pub struct Turn<B: Logged> {
-    pub(crate) table: Table<Option<B>, Standing<B::Event, B::Opening>, (), TurnRule<B>, Global>,
+    pub(crate) table: Table<Option<B>, Knowledge<B::Event, B::Opening>, (), TurnRule<B>, Global>,
 }
 
 impl<B: Logged> Model for Turn<B> {
@@ -102,31 +103,6 @@ impl<B: Logged> Vacant<B> {
 }
 
 impl<B: Logged> Turn<B> {
-    /// A turn that lends this book, whose log is empty, and the turn's first seat, of number 0. The book's opening is
-    /// the seats' from then on. Where there is no memory, the book comes back.
-    pub fn make(alloc: Global, book: B) -> Result<(Turn<B>, TurnSeat<B>), (B, NoMemory)>
-        requires empty { B.events book ≡ [] }
-        requires fits { B.fits book (B.opens book) }
-        ensures first { IfOk result (λ made. made.1 ≡ first_seat made.0 (B.opens book)) }
-        ensures back { IfErr result (λ refused. refused.0 ≡ book) }
-    {
-        match Table::vacant(alloc, &[0, 0, 1], 1, &()) {
-            Err(_) => Err((book, NoMemory)),
-            Ok((table, mut seat)) => {
-                put_first(&table.shared, &mut seat, book);
-                Ok((
-                    Turn { table },
-                    SeatOf {
-                        seat,
-                        number: 0,
-                        claimed: 1,
-                        last: false,
-                    },
-                ))
-            }
-        }
-    }
-
     /// Waits for the seat's turn, and takes the book. It takes no memory.
     pub fn take(&self, rt: &impl Wait, seat: &mut TurnSeat<B>) -> B
         requires here { seat.old.turn ≡ self.now }

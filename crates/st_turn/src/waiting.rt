@@ -1,6 +1,6 @@
 // Waiting for a turn. No proof says that a wait ends.
 ghost use Rattle.std.specs.Prelude.{◌≡◌, [], ◌∷◌, None, Some};
-ghost use Rattle.st_turn.specs.declared.standing.Place.TheVariants.{Out, Waiting, InTurn};
+ghost use Rattle.st_turn.specs.declared.knowledge.Place.TheVariants.{Out, Waiting, InTurn};
 ghost use Rattle.st_turn.specs.Kinds.{Found};
 ghost use Rattle.st_turn.specs.Seated.{IsOpen};
 

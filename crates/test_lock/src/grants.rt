@@ -1,14 +1,14 @@
 // The lock's core: who waits for whom.
 use st_grants::Grants;
 use st_units::{Name, NoMemory};
-use st_wants::{Mode, Want};
+use st_wants::{Mode, Names, Want};
 use std::alloc::Global;
 
 /// Of one pool, or of all where no name is given.
 fn want(alloc: Global, pool: Option<&str>, mode: Mode) -> Result<Want, NoMemory> {
     match pool {
         Some(text) => match Name::read(alloc, text.as_bytes()) {
-            Ok(name) => Ok(Want::Some(name, mode)),
+            Ok(name) => Ok(Want::Some(Names::one(name)?, mode)),
             Err(_) => Err(NoMemory),
         },
         None => Ok(Want::All(mode)),

@@ -2,12 +2,14 @@
 ghost use Rattle.std.specs.Prelude.{◌≡◌, [], false};
 ghost use Rattle.test_lock.specs.WritesOnly.{WritesOnly};
 
-use st_turn::{Logged, Turn, TurnSeat};
+use st_turn::{Logged, Turn, TurnSeat, Vacant};
 use std::alloc::Global;
 use std::process::Abort;
 use std::sync::Wait;
 use std::test::Fail;
+use std::thread;
 use std::thread::{Threads, join_mut};
+use std::time::{Clock, Duration};
 
 #[derive(Drop)]
 struct Note {
@@ -39,9 +41,10 @@ impl Logged for NumberBook {
 
 const NOTES: u64 = 100;
 
-/// Appends one number in a turn.
+/// Appends one number in a turn. It keeps the book for some milliseconds with each tenth, so that who waits for it
+/// sleeps.
 fn write_note(
-    rt: &(impl Wait + Abort),
+    rt: &(impl Wait + Clock + Abort),
     turn: &Turn<NumberBook>,
     seat: &mut TurnSeat<NumberBook>,
     value: u64,
@@ -52,6 +55,9 @@ fn write_note(
     ensures out { seat.new.is_in ≡ false }
 {
     let mut book = turn.take(rt, seat);
+    if value % 10 == 0 {
+        thread::sleep(rt, Duration::from_millis(3));
+    }
     let note = Note {
         seat: seat.number(),
         value,
@@ -63,7 +69,11 @@ fn write_note(
 }
 
 /// Appends the numbers from 0 on, one a turn.
-fn write_all(rt: &(impl Wait + Abort), turn: &Turn<NumberBook>, seat: &mut TurnSeat<NumberBook>)
+fn write_all(
+    rt: &(impl Wait + Clock + Abort),
+    turn: &Turn<NumberBook>,
+    seat: &mut TurnSeat<NumberBook>,
+)
     requires here { seat.old.turn ≡ turn.now }
     requires out { seat.old.is_in ≡ false }
     ensures writes { WritesOnly seat.old seat.new }
@@ -75,7 +85,7 @@ fn write_all(rt: &(impl Wait + Abort), turn: &Turn<NumberBook>, seat: &mut TurnS
 }
 
 /// Two threads, each with its own seat.
-fn write_side_by_side<R: Threads + Wait + Abort + Copy + Sync>(
+fn write_side_by_side<R: Threads + Wait + Clock + Abort + Copy + Sync>(
     rt: &R,
     turn: &Turn<NumberBook>,
     one: &mut TurnSeat<NumberBook>,
@@ -121,7 +131,7 @@ fn values_of(alloc: Global, book: &NumberBook, seat: u64) -> Result<Vec<u64>, Fa
 #[test]
 fn two_threads_write_in_turn(rt: HostRuntime) -> Result<(), Fail> {
     let alloc = rt.alloc();
-    let (turn, mut one) = Turn::make(alloc, empty_book(alloc)).ok().ok_or("no turn")?;
+    let (turn, mut one) = Vacant::make(alloc)?.fill(empty_book(alloc));
     let Ok(mut other) = turn.split(&mut one) else {
         panic!(rt; "no second seat");
     };
@@ -147,7 +157,7 @@ fn two_threads_write_in_turn(rt: HostRuntime) -> Result<(), Fail> {
 #[test]
 fn a_seat_that_is_not_joined_keeps_the_turn_open(rt: HostRuntime) -> Result<(), Fail> {
     let alloc = rt.alloc();
-    let (turn, mut one) = Turn::make(alloc, empty_book(alloc)).ok().ok_or("no turn")?;
+    let (turn, mut one) = Vacant::make(alloc)?.fill(empty_book(alloc));
     let Ok(other) = turn.split(&mut one) else {
         panic!(rt; "no second seat");
     };

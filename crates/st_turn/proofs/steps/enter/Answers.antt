@@ -1,8 +1,8 @@
 use Rattle.std.proofs.Common.{arith, sym, ap, ◌∙◌, ◌∷◌, ℕ, List}
 use Rattle.std.specs.Prelude.{Option}
 use Rattle.atomic_table.specs.Table.{Me, rest}
-use Rattle.st_turn.specs.declared.standing.Place.TheVariants.{Waiting}
-use Rattle.st_turn.specs.declared.standing.Standing.{Standing}
+use Rattle.st_turn.specs.declared.knowledge.Place.TheVariants.{Waiting}
+use Rattle.st_turn.specs.declared.knowledge.Knowledge.{Knowledge}
 use Rattle.st_turn.proofs.Turns.{enter_allows}
 use Rattle.st_turn.proofs.steps.enter.Goals as goal
 
@@ -16,5 +16,5 @@ pub exchange-requires : goal.exchange-requires
 exchange-requires g c =
     let told = c.load-serving.ensures in
     let h = told.2.0 (c.requires.waiting ∙ ap Waiting (sym c.if-serving-ticket.false)) in
-    let e = ap (λ (m : Me (Option g.row.B.Denot) (Standing g.row.B-Event.Denot g.row.B-Opening.Denot)). m.1) h.1 in
+    let e = ap (λ (m : Me (Option g.row.B.Denot) (Knowledge g.row.B-Event.Denot g.row.B-Opening.Denot)). m.1) h.1 in
     (told.0 ∙ c.requires.here, (h.0, e ∙ ap (λ (r : List (ℕ × Option g.row.B.Denot)). (0, h.0) ∷ r) (sym (ap rest e))))

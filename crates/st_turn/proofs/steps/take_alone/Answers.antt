@@ -1,7 +1,7 @@
 use Rattle.std.proofs.Common.{arith, sym, ap, ◌∙◌, ◌∷◌, ℕ, List}
 use Rattle.std.specs.Prelude.{Option}
 use Rattle.atomic_table.specs.Table.{Me, rest}
-use Rattle.st_turn.specs.declared.standing.Standing.{Standing}
+use Rattle.st_turn.specs.declared.knowledge.Knowledge.{Knowledge}
 use Rattle.st_turn.proofs.Ends.{take_last_allows}
 use Rattle.st_turn.proofs.steps.take_alone.Goals as goal
 
@@ -15,5 +15,5 @@ pub exchange-requires : goal.exchange-requires
 exchange-requires g c =
     let told = c.load-dealt.ensures in
     let h = told.2 in
-    let e = ap (λ (m : Me (Option g.row.B.Denot) (Standing g.row.B-Event.Denot g.row.B-Opening.Denot)). m.1) h.1 in
+    let e = ap (λ (m : Me (Option g.row.B.Denot) (Knowledge g.row.B-Event.Denot g.row.B-Opening.Denot)). m.1) h.1 in
     (told.0 ∙ c.requires.here, (h.0, e ∙ ap (λ (r : List (ℕ × Option g.row.B.Denot)). (0, h.0) ∷ r) (sym (ap rest e))))

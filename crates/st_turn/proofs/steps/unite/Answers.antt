@@ -1,7 +1,7 @@
 use Rattle.std.proofs.Common.{arith, ap, ◌∙◌}
 use Rattle.std.specs.Prelude.{Option}
 use Rattle.atomic_table.specs.Table.{Me}
-use Rattle.st_turn.specs.declared.standing.Standing.{Standing}
+use Rattle.st_turn.specs.declared.knowledge.Knowledge.{Knowledge}
 use Rattle.st_turn.proofs.Joins.{join_keeps, tell_allows}
 use Rattle.st_turn.proofs.SeatViews.{opened_some}
 use Rattle.st_turn.proofs.steps.unite.Goals as goal
@@ -26,5 +26,5 @@ load-dealt-requires g c =
       c.join_seat.ensures.0 ∙ c.requires.here.0,
       omega (arith, w),
       tell_allows b.by b.events b.opens b.fits c.args.table.now.table_id.slots c.join_seat.new.seat.id c.join_seat.new.seat.me
-          (ap (λ (m : Me (Option g.row.B.Denot) (Standing g.row.B-Event.Denot g.row.B-Opening.Denot)). m.0.place) e ∙ c.requires.out.0),
+          (ap (λ (m : Me (Option g.row.B.Denot) (Knowledge g.row.B-Event.Denot g.row.B-Opening.Denot)). m.0.place) e ∙ c.requires.out.0),
     )

@@ -1,7 +1,7 @@
 use Rattle.std.proofs.Common.{arith, ap, ◌≡◌, length}
 use Rattle.std.specs.Prelude.{Option}
 use Rattle.atomic_table.specs.Table.{Me}
-use Rattle.st_turn.specs.declared.standing.Standing.{Standing}
+use Rattle.st_turn.specs.declared.knowledge.Knowledge.{Knowledge}
 use Rattle.st_turn.specs.Parts.{held}
 use Rattle.st_turn.proofs.SeatViews.{count_is, seat_among}
 use Rattle.st_turn.proofs.turn.Turn.close.Goals as goal
@@ -15,5 +15,5 @@ returns-clause-mine g c =
     let enough = c.count.ensures.enough in
     let all : length (held s.seat.me.0.holding) ≡ c.count.result = omega (arith, few, enough, c.if-left-gt0.false) in
     let alone = c.count.ensures.alone all in
-    let same = ap (λ (m : Me (Option g.row.B.Denot) (Standing g.row.B-Event.Denot g.row.B-Opening.Denot)). held m.0.holding) alone.0 in
+    let same = ap (λ (m : Me (Option g.row.B.Denot) (Knowledge g.row.B-Event.Denot g.row.B-Opening.Denot)). held m.0.holding) alone.0 in
     seat_among b.by s.seat.table_id s.number s.claimed s.seat.me.0 c.count.new.seat.me.0 c.args.seat (b.events c.open_up.result) seated c.seat.view_is same c.open_up.ensures.mine

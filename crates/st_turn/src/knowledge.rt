@@ -36,7 +36,7 @@ pub struct Holding<E> {
 }
 
 /// What a seat knows.
-pub struct Standing<E, O> {
+pub struct Knowledge<E, O> {
     pub place: Place,
     pub holding: Holding<E>,
     /// The log, as far as it has seen it.
