@@ -1,19 +1,19 @@
 -- no call is answered with a fault of a device where it met none
-use Rattle.std.proofs.Common.{ℕ, ◌≡◌, ◌==◌, List, [], ◌∷◌, Bool, true, false, Option, Some, None, refl, cond, option_map}
+use Rattle.std.proofs.Common.{◌≡◌, ◌==◌, List, [], ◌∷◌, Bool, true, false, Option, Some, None, refl, cond, option_map}
 use Rattle.std.specs.List.{AllByRecursion}
 use Rattle.st_units.specs.declared.cause.Cause.{Cause}
-use Rattle.st_units.specs.declared.cause.Cause.TheVariants.{EmptyDevices, NoSuchDevice, NameInUse, DeviceInUse, DeviceTooSmall, TooManyDevices, TooManyPools, DeviceFault, OutOfMemory}
+use Rattle.st_units.specs.declared.cause.Cause.TheVariants.{EmptyDevices, NoSuchDevice, NameInUse, DeviceInUse, DeviceTooSmall, TooManyDevices, TooManyPools}
 use Rattle.st_model.specs.declared.call.Call.{Call}
-use Rattle.st_model.specs.declared.call.Call.TheVariants.{CreatePool, DestroyPool, StopPool, StartPool, RenamePool, AddDataDevs, InitCache, AddCacheDevs, CreateFilesystems, DestroyFilesystems, SnapshotFilesystem, RenameFilesystem, SetSizeLimit, SetFsLimit, SetOverprovisioning, FsWrite, FsRead, Check, PoolReport, EngineStateReport, PowerCycle}
-use Rattle.st_model.specs.declared.entry.Env.{Env}
-use Rattle.st_model.specs.declared.entry.Env.TheVariants.{Plain, NoMem}
+use Rattle.st_model.specs.declared.call.Call.TheVariants.{CreatePool, EngineStateReport}
+use Rattle.st_model.specs.declared.entry.Env.TheVariants.{Plain}
 use Rattle.st_model.specs.declared.reply.Reply.{Reply}
 use Rattle.st_model.specs.declared.state.EngineState.{EngineState}
 use Rattle.st_model.specs.declared.state.PoolState.{PoolState}
 use Rattle.st_model.specs.Answer.{code_of, refused, accepted, refused_by, refused_where, first_answer, unless_answered}
-use Rattle.st_model.specs.Look.{Text, distinct, first_absent, first_used, holder, pool_using}
+use Rattle.st_model.specs.Look.{Text, first_absent, first_used, holder, pool_using}
 use Rattle.st_model.specs.Step.{step, is_built}
-use Rattle.st_model.specs.steps.CreatePool.{create_answers, create_answer, create_plain, answer_held, is_made, in_use, first_small}
+use Rattle.st_model.specs.steps.CreatePool.{create_answers, create_answer, create_plain, answer_held, is_made}
+use Rattle.st_model.specs.Checks.{in_use, first_small}
 use Rattle.st_model.specs.steps.EngineStateReport.{report_plain}
 
 abbrev IsNoFailure : Reply → Type 0
@@ -83,45 +83,4 @@ report s = refl
 pub plain-no_failure : (s : EngineState) (call : Call) → is_built call ≡ true → ((step s call Plain).0.code == 27) ≡ false
 plain-no_failure s (CreatePool name devices) h = create s name devices
 plain-no_failure s EngineStateReport h = report s
-plain-no_failure s (DestroyPool name) h = absurd cc
-plain-no_failure s (StopPool name) h = absurd cc
-plain-no_failure s (StartPool id) h = absurd cc
-plain-no_failure s (RenamePool name new) h = absurd cc
-plain-no_failure s (AddDataDevs pool devices) h = absurd cc
-plain-no_failure s (InitCache pool devices) h = absurd cc
-plain-no_failure s (AddCacheDevs pool devices) h = absurd cc
-plain-no_failure s (CreateFilesystems pool filesystems) h = absurd cc
-plain-no_failure s (DestroyFilesystems pool names) h = absurd cc
-plain-no_failure s (SnapshotFilesystem pool origin name) h = absurd cc
-plain-no_failure s (RenameFilesystem pool name new) h = absurd cc
-plain-no_failure s (SetSizeLimit pool name limit) h = absurd cc
-plain-no_failure s (SetFsLimit pool limit) h = absurd cc
-plain-no_failure s (SetOverprovisioning pool value) h = absurd cc
-plain-no_failure s (FsWrite pool name sector payload) h = absurd cc
-plain-no_failure s (FsRead pool name sector sectors) h = absurd cc
-plain-no_failure s (Check pool) h = absurd cc
-plain-no_failure s (PoolReport pool) h = absurd cc
-plain-no_failure s PowerCycle h = absurd cc
-
-pub no_memory-no_failure : (s : EngineState) (call : Call) → is_built call ≡ true → ((step s call NoMem).0.code == 27) ≡ false
-no_memory-no_failure s (CreatePool name devices) h = refl
-no_memory-no_failure s EngineStateReport h = refl
-no_memory-no_failure s (DestroyPool name) h = absurd cc
-no_memory-no_failure s (StopPool name) h = absurd cc
-no_memory-no_failure s (StartPool id) h = absurd cc
-no_memory-no_failure s (RenamePool name new) h = absurd cc
-no_memory-no_failure s (AddDataDevs pool devices) h = absurd cc
-no_memory-no_failure s (InitCache pool devices) h = absurd cc
-no_memory-no_failure s (AddCacheDevs pool devices) h = absurd cc
-no_memory-no_failure s (CreateFilesystems pool filesystems) h = absurd cc
-no_memory-no_failure s (DestroyFilesystems pool names) h = absurd cc
-no_memory-no_failure s (SnapshotFilesystem pool origin name) h = absurd cc
-no_memory-no_failure s (RenameFilesystem pool name new) h = absurd cc
-no_memory-no_failure s (SetSizeLimit pool name limit) h = absurd cc
-no_memory-no_failure s (SetFsLimit pool limit) h = absurd cc
-no_memory-no_failure s (SetOverprovisioning pool value) h = absurd cc
-no_memory-no_failure s (FsWrite pool name sector payload) h = absurd cc
-no_memory-no_failure s (FsRead pool name sector sectors) h = absurd cc
-no_memory-no_failure s (Check pool) h = absurd cc
-no_memory-no_failure s (PoolReport pool) h = absurd cc
-no_memory-no_failure s PowerCycle h = absurd cc
+plain-no_failure s _ h = absurd cc

@@ -8,7 +8,8 @@ use Rattle.st_model.specs.declared.state.PoolState.{PoolState}
 use Rattle.st_model.specs.declared.state.EngineState.{EngineState}
 use Rattle.st_model.specs.Look.{Text, row_of, first_absent, distinct, uses, pool_using, first_used, holds, holder}
 use Rattle.st_model.specs.Answer.{first_answer, refused_by, refused_where, unless_answered}
-use Rattle.st_model.specs.steps.CreatePool.{create_answers, create_answer, create_plain, answer_held, in_use, first_small, sectors_of}
+use Rattle.st_model.specs.steps.CreatePool.{create_answers, create_answer, create_plain, answer_held}
+use Rattle.st_model.specs.Checks.{in_use, first_small, sectors_of}
 use Rattle.st_model.specs.Valid.{is_there}
 use Rattle.st_model.proofs.Fresh.{FreeOf, IsFresh}
 use Rattle.st_model.proofs.Lists.{All-weaker, All-distinct}

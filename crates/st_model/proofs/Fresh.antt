@@ -10,7 +10,8 @@ use Rattle.st_model.specs.declared.state.PoolState.{PoolState}
 use Rattle.st_model.specs.declared.state.EngineState.{EngineState}
 use Rattle.st_model.specs.Look.{Text, has_path, row_of, first_absent, distinct, uses, pool_using, first_used, holds}
 use Rattle.st_model.specs.Answer.{first_answer, refused_by, refused_where}
-use Rattle.st_model.specs.steps.CreatePool.{create_answers, create_answer, answer_held, in_use, first_small, sectors_of, is_made}
+use Rattle.st_model.specs.steps.CreatePool.{create_answers, create_answer, answer_held, is_made}
+use Rattle.st_model.specs.Checks.{in_use, first_small, sectors_of}
 use Rattle.st_model.specs.Valid.{is_there}
 use Rattle.st_model.proofs.Lists.{none_found, found_passes, All-weaker}
 

@@ -1,15 +1,17 @@
 -- a pool just made is whole, and one whose making failed is blank
-use Rattle.std.proofs.Common.{◌≡◌, ◌≢◌, ℕ, suc, ◌-◌, ◌≤◌, ◌^◌, ◌==◌, List, [], ◌∷◌, length, Bool, true, false, filter, cond, Option, Some, None, is_some, option_map, unwrap_or, bytes_eq, ap, refl, arith}
-use Rattle.std.specs.List.{AllByRecursion}
+use Rattle.std.proofs.Common.{◌≡◌, ◌≢◌, ℕ, suc, ◌+◌, ◌-◌, ◌≤◌, ◌^◌, ◌==◌, List, [], ◌∷◌, length, Bool, true, false, filter, fold, cond, Option, Some, None, is_some, option_map, unwrap_or, bytes_eq, ap, refl, arith}
+use Rattle.std.specs.List.{AllByRecursion, sum_by}
+use Rattle.st_limits.specs.Sums.{usable_blocks}
 use Rattle.std.proofs.lemmas.Nat.{le-div}
 use Rattle.st_units.specs.declared.rows.DevRow.{DevRow}
 use Rattle.st_units.specs.declared.rows.Tier.TheVariants.{DataTier}
 use Rattle.st_model.specs.declared.state.EngineState.{EngineState}
 use Rattle.st_model.specs.Look.{Text, row_of, distinct}
-use Rattle.st_model.specs.Sums.{AreSmall, usable_blocks, blocks_of, cache_rows}
+use Rattle.st_model.specs.Sums.{AreSmall, cache_rows, is_data, sectors_in}
 use Rattle.st_model.specs.ValidPool.{StartsWithData, AreDevices, IsWhole, IsBegun}
 use Rattle.st_model.specs.Valid.{AreRackRows, is_there, IsRow}
-use Rattle.st_model.specs.steps.CreatePool.{is_data, data_rows, sectors_of, new_pool, broken_pool}
+use Rattle.st_model.specs.steps.CreatePool.{data_rows, new_pool, broken_pool}
+use Rattle.st_model.specs.Checks.{sectors_of}
 use Rattle.st_model.proofs.Fresh.{IsFresh}
 use Rattle.st_model.proofs.Lists.{All-map, All-weaker, All-distinct, EachPair-map, distinct-differ}
 
@@ -44,9 +46,16 @@ starts rows (path ∷ paths) h = refl
 usable : (sectors : ℕ) → 8192 ≤ sectors → 58 ≤ usable_blocks sectors
 usable sectors h = le-div 58 (sectors - 256) 128 (omega arith) (omega (arith, h))
 
-has_room : (rows : List DevRow) → StartsWithData rows → AllByRecursion (λ (row : DevRow). 8192 ≤ row.sectors) rows → 58 ≤ blocks_of rows
+no_less : (n : ℕ) (xs : List ℕ) → n ≤ fold (λ a x. a + usable_blocks x) n xs
+no_less n [] = omega arith
+no_less n (x ∷ xs) = let rest = no_less (n + usable_blocks x) xs in omega (arith, rest)
+
+has_room : (rows : List DevRow) → StartsWithData rows → AllByRecursion (λ (row : DevRow). 8192 ≤ row.sectors) rows → 58 ≤ sum_by usable_blocks (sectors_in rows)
 has_room [] starts h = absurd starts
-has_room (row ∷ rows) starts h = let first = usable row.sectors h.0 in omega (arith, first)
+has_room (row ∷ rows) starts h =
+    let first = usable row.sectors h.0 in
+    let rest = no_less (0 + usable_blocks row.sectors) (sectors_in rows) in
+    omega (arith, first, rest)
 
 row_there : (path : Text) (o : Option DevRow) → is_some o ≡ true → option_map (λ (r : DevRow). r.sectors) o ≡ Some (unwrap_or (option_map (λ (r : DevRow). r.sectors) o) 0)
 row_there path None h = absurd cc

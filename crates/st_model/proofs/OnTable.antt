@@ -18,8 +18,10 @@ use Rattle.st_model.specs.OnTable.{is_held, held_answer, user_of, first_taken, t
 use Rattle.st_model.specs.Parts.{known, new_name, paths_taken, table_of, started, pool_at, is_used, free_of, shown_table}
 use Rattle.st_model.specs.Valid.{Apart}
 use Rattle.st_model.specs.ValidPool.{EachPair}
-use Rattle.st_model.specs.steps.CreatePool.{answer_held, create_answer, data_paths, first_small, in_use, is_made, same_set}
-use Rattle.st_model.specs.steps.EngineStateReport.{free_paths, halted_pools, started_pools, stopped_with, table_info}
+use Rattle.st_model.specs.steps.CreatePool.{answer_held, create_answer, data_paths, is_made, same_set}
+use Rattle.st_model.specs.Checks.{first_small, in_use}
+use Rattle.st_model.specs.Shown.{free_paths}
+use Rattle.st_model.specs.Shown.{halted_pools, started_pools, stopped_with, table_info}
 
 module _ {X Y : Type 0} where
   along : (f : X → Y) (b : Bool) (x : X) (o : Option X) (o' : Option Y) → o' ≡ option_map f o → cond b (Some (f x)) o' ≡ option_map f (cond b (Some x) o)

@@ -1,59 +1,83 @@
--- a step keeps validity, call by call
-use Rattle.std.proofs.Common.{unwrap_or}
-use Rattle.st_units.specs.declared.cause.Cause.TheVariants.{OutOfMemory}
+-- the closing table: a step keeps validity, a line for each call
+use Rattle.std.proofs.Common.{◌≡◌, List, Bool, true, false, cond, Option, Some, None, unwrap_or, refl}
+use Rattle.st_units.specs.declared.cause.Cause.TheVariants.{EmptyDevices, NameInUse, TooManyDevices, TooManyPools, DeviceFault, OutOfMemory}
+use Rattle.st_units.specs.declared.cause.Cause.{Cause}
 use Rattle.st_model.specs.declared.call.Call.{Call}
-use Rattle.st_model.specs.declared.call.Call.TheVariants.{CreatePool, DestroyPool, StopPool, StartPool, RenamePool, AddDataDevs, InitCache, AddCacheDevs, CreateFilesystems, DestroyFilesystems, SnapshotFilesystem, RenameFilesystem, SetSizeLimit, SetFsLimit, SetOverprovisioning, FsWrite, FsRead, Check, PoolReport, EngineStateReport, PowerCycle}
+use Rattle.st_model.specs.declared.call.Call.TheVariants.{CreatePool, DestroyPool, StopPool, StartPool, RenamePool, AddDataDevs, InitCache, AddCacheDevs, CreateFilesystems, DestroyFilesystems, SnapshotFilesystem, RenameFilesystem, SetSizeLimit, SetFsLimit, SetOverprovisioning, FsWrite, FsRead, Check, PoolReport, PoolReports, EngineStateReport, SetMerge, PowerCycle}
 use Rattle.st_model.specs.declared.entry.Env.{Env}
 use Rattle.st_model.specs.declared.entry.Env.TheVariants.{Plain, NoMem, FaultRead, FaultWrite, After, Before}
+use Rattle.st_model.specs.declared.reply.Given.TheVariants.{Created}
+use Rattle.st_model.specs.declared.reply.Reply.{Reply}
 use Rattle.st_model.specs.declared.state.EngineState.{EngineState}
-use Rattle.st_model.specs.Answer.{refused}
+use Rattle.st_model.specs.declared.state.PoolState.{PoolState}
+use Rattle.st_model.specs.Answer.{accepted, refused, refused_by}
 use Rattle.st_model.specs.Look.{Text}
-use Rattle.std.specs.Prelude.{List}
-use Rattle.st_model.specs.Step.{step}
+use Rattle.st_model.specs.steps.CreatePool.{create_answer, create_answers, create_plain, answer_held, is_made}
+use Rattle.st_model.specs.Laws.{KeepsValidity}
+use Rattle.st_model.specs.Local.{Outcome}
+use Rattle.st_model.specs.Step.{is_changed, wrote, outcome}
 use Rattle.st_model.specs.Valid.{IsValid}
-use Rattle.st_model.specs.steps.CreatePool.{create_pool}
-use Rattle.st_model.specs.steps.EngineStateReport.{engine_state_report, report_plain}
-use Rattle.st_model.proofs.ValidCreate.{create_plain-IsValid, create_broken-IsValid}
+use Rattle.st_model.proofs.Answers0.{IsNoChange, changed-unanswered, no_change_where}
+use Rattle.st_model.proofs.EachValid.{usual-valid, where-if, rename_pool-keeps, stop-keeps, create_fs-keeps, limit-keeps, report-keeps, engine-keeps}
+use Rattle.st_model.proofs.StartKeeps.{start-keeps}
+use Rattle.st_model.proofs.ValidMaking.{create-valid, broken-valid}
+use Rattle.st_model.proofs.ValidStart.{IsValidAfter, where-valid}
 
-create-IsValid : (s : EngineState) (name : Text) (paths : List Text) (env : Env) → IsValid s → IsValid (unwrap_or (create_pool s name paths env) (refused OutOfMemory, s)).1
-create-IsValid s name paths Plain valid = create_plain-IsValid s name paths valid
-create-IsValid s name paths NoMem valid = valid
-create-IsValid s name paths FaultRead valid = valid
-create-IsValid s name paths FaultWrite valid = create_broken-IsValid s name paths (refused OutOfMemory) valid
-create-IsValid s name paths After valid = valid
-create-IsValid s name paths (Before bytes) valid = valid
+no_change_by : (o : Option Cause) → IsNoChange (refused_by o)
+no_change_by None = tt
+no_change_by (Some cause) = no_change_where true cause
 
-plain_report-IsValid : (s : EngineState) → IsValid s → IsValid (report_plain s).1
-unfolding report_plain
-plain_report-IsValid s valid = valid
+no_change_held : (name : Text) (paths : List Text) (o : Option PoolState) → IsNoChange (answer_held name paths o)
+no_change_held name paths None = tt
+no_change_held name paths (Some p) = here (is_made name paths p)
+  where
+    here : (b : Bool) → IsNoChange (cond b (Some (accepted (Created false None))) (Some (refused NameInUse)))
+    here true = refl
+    here false = refl
 
-report-IsValid : (s : EngineState) (env : Env) → IsValid s → IsValid (unwrap_or (engine_state_report s env) (refused OutOfMemory, s)).1
-report-IsValid s Plain valid = plain_report-IsValid s valid
-report-IsValid s NoMem valid = valid
-report-IsValid s FaultRead valid = valid
-report-IsValid s FaultWrite valid = valid
-report-IsValid s After valid = valid
-report-IsValid s (Before bytes) valid = valid
+create-wrote : (s : EngineState) (name : Text) (paths : List Text) → is_changed (Some (create_plain s name paths)) ≡ true → create_answer s name paths ≡ None
+unfolding create_plain create_answer
+create-wrote s name paths h =
+    changed-unanswered (create_answers s name paths) s _
+    (no_change_where _ EmptyDevices, (no_change_by _, (no_change_held name paths _, (no_change_by _, (no_change_by _, (no_change_where _ TooManyDevices, (no_change_where _ TooManyPools, tt))))))) h
 
-pub step-IsValid : (s : EngineState) (call : Call) (env : Env) → IsValid s → IsValid (step s call env).1
-step-IsValid s (CreatePool name devices) env valid = create-IsValid s name devices env valid
-step-IsValid s EngineStateReport env valid = report-IsValid s env valid
-step-IsValid s (DestroyPool name) env valid = valid
-step-IsValid s (StopPool name) env valid = valid
-step-IsValid s (StartPool id) env valid = valid
-step-IsValid s (RenamePool name new) env valid = valid
-step-IsValid s (AddDataDevs pool devices) env valid = valid
-step-IsValid s (InitCache pool devices) env valid = valid
-step-IsValid s (AddCacheDevs pool devices) env valid = valid
-step-IsValid s (CreateFilesystems pool filesystems) env valid = valid
-step-IsValid s (DestroyFilesystems pool names) env valid = valid
-step-IsValid s (SnapshotFilesystem pool origin name) env valid = valid
-step-IsValid s (RenameFilesystem pool name new) env valid = valid
-step-IsValid s (SetSizeLimit pool name limit) env valid = valid
-step-IsValid s (SetFsLimit pool limit) env valid = valid
-step-IsValid s (SetOverprovisioning pool value) env valid = valid
-step-IsValid s (FsWrite pool name sector payload) env valid = valid
-step-IsValid s (FsRead pool name sector sectors) env valid = valid
-step-IsValid s (Check pool) env valid = valid
-step-IsValid s (PoolReport pool) env valid = valid
-step-IsValid s PowerCycle env valid = valid
+create_pool-keeps : (s : EngineState) (name : Text) (paths : List Text) (env : Env) → IsValid s → IsValidAfter (outcome s (CreatePool name paths) env)
+create_pool-keeps s name paths Plain v = create-valid s name paths v
+create_pool-keeps s name paths NoMem v = v
+create_pool-keeps s name paths FaultRead v = where-valid _ (refused DeviceFault, s) v
+create_pool-keeps s name paths FaultWrite v = where-if (wrote s (CreatePool name paths)) _ (λ h. broken-valid s name paths (create-wrote s name paths h) v)
+create_pool-keeps s name paths After v = tt
+create_pool-keeps s name paths (Before bytes) v = tt
+
+outcome-keeps : (s : EngineState) (call : Call) (env : Env) → IsValid s → IsValidAfter (outcome s call env)
+outcome-keeps s (CreatePool name devices) env v = create_pool-keeps s name devices env v
+outcome-keeps s (StopPool name) env v = stop-keeps s name env v
+outcome-keeps s (StartPool id) env v = start-keeps s id env v
+outcome-keeps s (RenamePool name new) env v = rename_pool-keeps s name new env v
+outcome-keeps s (CreateFilesystems pool specs) env v = create_fs-keeps s pool specs env v
+outcome-keeps s (SetFsLimit pool limit) env v = limit-keeps s pool limit env v
+outcome-keeps s (PoolReport pool) env v = report-keeps s pool env v
+outcome-keeps s EngineStateReport env v = engine-keeps s env v
+-- not built yet
+outcome-keeps s (DestroyPool name) env v = usual-valid s (DestroyPool name) env v tt (λ h. absurd cc)
+outcome-keeps s (AddDataDevs pool devices) env v = usual-valid s (AddDataDevs pool devices) env v tt (λ h. absurd cc)
+outcome-keeps s (InitCache pool devices) env v = usual-valid s (InitCache pool devices) env v tt (λ h. absurd cc)
+outcome-keeps s (AddCacheDevs pool devices) env v = usual-valid s (AddCacheDevs pool devices) env v tt (λ h. absurd cc)
+outcome-keeps s (DestroyFilesystems pool names) env v = usual-valid s (DestroyFilesystems pool names) env v tt (λ h. absurd cc)
+outcome-keeps s (SnapshotFilesystem pool origin new) env v = usual-valid s (SnapshotFilesystem pool origin new) env v tt (λ h. absurd cc)
+outcome-keeps s (RenameFilesystem pool fs new) env v = usual-valid s (RenameFilesystem pool fs new) env v tt (λ h. absurd cc)
+outcome-keeps s (SetSizeLimit pool fs limit) env v = usual-valid s (SetSizeLimit pool fs limit) env v tt (λ h. absurd cc)
+outcome-keeps s (SetOverprovisioning pool value) env v = usual-valid s (SetOverprovisioning pool value) env v tt (λ h. absurd cc)
+outcome-keeps s (FsRead pool fs sector sectors) env v = usual-valid s (FsRead pool fs sector sectors) env v tt (λ h. absurd cc)
+outcome-keeps s (Check pool) env v = usual-valid s (Check pool) env v tt (λ h. absurd cc)
+outcome-keeps s (FsWrite pool fs sector payload) env v = usual-valid s (FsWrite pool fs sector payload) env v tt (λ h. absurd cc)
+outcome-keeps s (SetMerge pool fs value) env v = usual-valid s (SetMerge pool fs value) env v tt (λ h. absurd cc)
+outcome-keeps s (PoolReports pools) env v = usual-valid s (PoolReports pools) env v tt tt
+outcome-keeps s PowerCycle env v = usual-valid s PowerCycle env v tt tt
+
+stepped : (o : Outcome) (r : Reply) (s : EngineState) → IsValid s → IsValidAfter o → IsValid (unwrap_or o (r, s)).1
+stepped None r s v h = v
+stepped (Some after) r s v h = h
+
+pub step-keeps : KeepsValidity
+step-keeps s call env v = stepped (outcome s call env) (refused OutOfMemory) s v (outcome-keeps s call env v)

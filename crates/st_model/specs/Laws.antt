@@ -1,17 +1,16 @@
 -- laws of step
-use Rattle.std.specs.Prelude.{◌≡◌, false, Option, Some, None}
-use Rattle.std.specs.Str.{bytes_eq}
+use Rattle.std.specs.Prelude.{◌≡◌, List, is_some}
 use Rattle.st_wants.specs.declared.want.Mode.{Mode}
 use Rattle.st_wants.specs.declared.want.Mode.TheVariants.{Read}
-use Rattle.st_wants.specs.declared.want.Want.{Want}
 use Rattle.st_wants.specs.declared.want.Want.TheVariants as wants
+use Rattle.st_wants.specs.Names.{is_named}
 use Rattle.st_wants.specs.Wants.{mode_of}
 use Rattle.st_model.specs.declared.call.Call.{Call}
 use Rattle.st_model.specs.declared.entry.Env.{Env}
 use Rattle.st_model.specs.declared.state.EngineState.{EngineState}
+use Rattle.st_model.specs.Local.{IsLocal, Leaves}
 use Rattle.st_model.specs.Look.{Text}
-use Rattle.st_model.specs.declared.reply.Reply.{Reply}
-use Rattle.st_model.specs.Parts.{pool_at, started, table_of, Agree}
+use Rattle.st_model.specs.Parts.{Agree}
 use Rattle.st_model.specs.Step.{outcome, step}
 use Rattle.st_model.specs.Valid.{IsValid}
 use Rattle.st_model.specs.Wanted.{want_of}
@@ -19,34 +18,21 @@ use Rattle.st_model.specs.Wanted.{want_of}
 abbrev pub KeepsValidity : Type 0
 KeepsValidity = (s : EngineState) (call : Call) (env : Env) → IsValid s → IsValid (step s call env).1
 
--- a call on the pool of this name leaves each other pool, started or not, and what the table stands for
-pub record LeavesOthers (name : Text) (s t : EngineState) : Type 0 where
-  pub pools : (other : Text) → bytes_eq other name ≡ false → pool_at other t.pools ≡ pool_at other s.pools
-  pub cells : (other : Text) → bytes_eq other name ≡ false → pool_at other (started t) ≡ pool_at other (started s)
-  pub table : table_of t ≡ table_of s
-
--- A call on one pool is local: what it answers and what it makes of its pool depend on that pool alone, or on there
--- being none, and all else stays.
-pub record IsLocal (name : Text) (call : Call) (env : Env) : Type 0 where
-  pub others : (s : EngineState) → LeavesOthers name s (step s call env).1
-  pub replies : (s t : EngineState) → pool_at name s.pools ≡ pool_at name t.pools → (step s call env).0 ≡ (step t call env).0
-  pub makes : (s t : EngineState) → pool_at name s.pools ≡ pool_at name t.pools → pool_at name (step s call env).1.pools ≡ pool_at name (step t call env).1.pools
-
-abbrev pub Locality : Type 0
-Locality = (call : Call) (env : Env) (name : Text) (mode : Mode) → want_of call ≡ wants.Some name mode → IsLocal name call env
-
 -- a call that wants to read changes no state
 abbrev pub ReadsKeep : Type 0
 ReadsKeep = (s : EngineState) (call : Call) (env : Env) → mode_of (want_of call) ≡ Read → (step s call env).1 ≡ s
 
--- neither call can meet it; or both can, with one answer, and leave states that agree on the want
-abbrev pub SameOutcome : Want → Option (Reply × EngineState) → Option (Reply × EngineState) → Type 0
-SameOutcome want None None = Unit {0}
-SameOutcome want None (Some b) = ⊥
-SameOutcome want (Some a) None = ⊥
-SameOutcome want (Some a) (Some b) = (a.0 ≡ b.0) × Agree want a.1 b.1
+-- a call whose want names pools is local to them, whatever it meets
+abbrev pub Locality : Type 0
+Locality = (call : Call) (env : Env) (names : List Text) (mode : Mode) → want_of call ≡ wants.Some names mode → IsLocal (is_named names) (λ s. outcome s call env)
 
--- What a call may meet, what it answers, and what it leaves of what it wants depend on what it wants alone.
-abbrev pub Outcomes : Type 0
-Outcomes = (want : Want) (s t : EngineState) (call : Call) (env : Env) → want_of call ≡ want → IsValid s → IsValid t → Agree want s t
-    → SameOutcome want (outcome s call env) (outcome t call env)
+-- What a history needs of it: from states that agree on the want the call has the same licence and the same reply, and
+-- the states after it agree on the want again; all but the want's pools stays.
+pub record StepsAlike (call : Call) (env : Env) (names : List Text) (mode : Mode) : Type 0 where
+  pub licences : (s t : EngineState) → Agree (wants.Some names mode) s t → is_some (outcome s call env) ≡ is_some (outcome t call env)
+  pub replies : (s t : EngineState) → Agree (wants.Some names mode) s t → (step s call env).0 ≡ (step t call env).0
+  pub agree : (s t : EngineState) → Agree (wants.Some names mode) s t → Agree (wants.Some names mode) (step s call env).1 (step t call env).1
+  pub others : (s : EngineState) → Leaves (is_named names) s (step s call env).1
+
+abbrev pub StepLocality : Type 0
+StepLocality = (call : Call) (env : Env) (names : List Text) (mode : Mode) → want_of call ≡ wants.Some names mode → StepsAlike call env names mode

@@ -1,8 +1,17 @@
 pub mod Answer
+pub mod Checks
+pub mod Flight
+pub mod Found
 pub mod Laws
+pub mod Lifted
+pub mod Local
 pub mod Look
+pub mod Merged
 pub mod OnTable
 pub mod Parts
+pub mod Plain
+pub mod Shown
+pub mod Sound
 pub mod Step
 pub mod Sums
 pub mod Valid

@@ -1,15 +1,17 @@
 -- what CreatePool answers, as the table and the started pool of the name tell it
-use Rattle.std.specs.Prelude.{◌+◌, ◌^◌, List, [], ◌∷◌, ◌++◌, length, Bool, ◌||◌, nat_le, nat_lt, ◌==◌, bytes_eq, find, Option, Some, None, is_some, option_map}
+use Rattle.std.specs.Prelude.{◌+◌, List, [], ◌∷◌, ◌++◌, length, Bool, ◌||◌, nat_le, nat_lt, bytes_eq, find, Option, Some, None, is_some, option_map}
+use Rattle.st_limits.specs.declared.TheConstants.{MAX_POOLS, MAX_POOL_DEVICES, MAX_POOL_SERIAL}
 use Rattle.st_units.specs.declared.cause.Cause.{Cause}
-use Rattle.st_units.specs.declared.cause.Cause.TheVariants.{EmptyDevices, NoSuchDevice, NameInUse, DeviceInUse, DeviceTooSmall, TooManyDevices, TooManyPools}
+use Rattle.st_units.specs.declared.cause.Cause.TheVariants.{NameInUse, DeviceInUse, TooManyDevices, TooManyPools}
 use Rattle.st_model.specs.declared.reply.Reply.{Reply}
 use Rattle.st_model.specs.declared.state.KnownPool.{KnownPool}
 use Rattle.st_model.specs.declared.state.PoolState.{PoolState}
 use Rattle.st_model.specs.declared.state.TableState.{TableState}
 use Rattle.st_model.specs.Answer.{refused, refused_by, refused_where, first_answer}
-use Rattle.st_model.specs.Look.{Text, is_name_of, first_absent, distinct}
+use Rattle.st_model.specs.Checks.{no_devices, absent_device, small_device}
+use Rattle.st_model.specs.Look.{Text, is_name_of, distinct}
 use Rattle.st_model.specs.Parts.{is_used}
-use Rattle.st_model.specs.steps.CreatePool.{answer_held, first_small}
+use Rattle.st_model.specs.steps.CreatePool.{answer_held}
 
 -- a known pool holds the name: as its own, or as the one that a rename in flight gives it
 abbrev pub is_held : Text → KnownPool → Bool
@@ -35,13 +37,13 @@ taken_by names (Some path) = option_map (λ (pool : KnownPool). DeviceInUse path
 -- the answers that change nothing, in the order in which they are tried
 abbrev pub table_answers : TableState → Option PoolState → Text → List Text → List (Option Reply)
 table_answers t own name paths =
-    refused_where (length paths == 0) EmptyDevices
-    ∷ refused_by (option_map NoSuchDevice (first_absent paths t.devices))
+    no_devices paths
+    ∷ absent_device paths t.devices
     ∷ held_answer name paths own (find (is_held name) t.names)
     ∷ refused_by (taken_by t.names (first_taken paths t.names))
-    ∷ refused_by (option_map DeviceTooSmall (first_small paths t.devices))
-    ∷ refused_where (nat_lt 16 (length (distinct paths))) TooManyDevices
-    ∷ refused_where (nat_le 16 (length t.names) || nat_lt (2 ^ 48) t.next) TooManyPools
+    ∷ small_device paths t.devices
+    ∷ refused_where (nat_lt MAX_POOL_DEVICES (length (distinct paths))) TooManyDevices
+    ∷ refused_where (nat_le MAX_POOLS (length t.names) || nat_lt MAX_POOL_SERIAL t.next) TooManyPools
     ∷ []
 
 unfoldable pub table_answer : TableState → Option PoolState → Text → List Text → Option Reply

@@ -1,8 +1,9 @@
 -- what a started pool and the table stand for, and what two states have in common for a want
-use Rattle.std.specs.Prelude.{◌≡◌, List, [], ◌++◌, Bool, map, filter, find, is_none, Option, Some, None}
+use Rattle.std.specs.Prelude.{◌≡◌, List, [], ◌++◌, Bool, true, map, filter, find, is_none, Option, Some, None}
 use Rattle.st_units.specs.declared.rows.DevRow.{DevRow}
 use Rattle.st_wants.specs.declared.want.Want.{Want}
 use Rattle.st_wants.specs.declared.want.Want.TheVariants as wants
+use Rattle.st_wants.specs.Names.{is_named}
 use Rattle.st_model.specs.declared.call.Call.{Call}
 use Rattle.st_model.specs.declared.info.TableInfo.{TableInfo}
 use Rattle.st_model.specs.declared.state.EngineState.{EngineState}
@@ -10,7 +11,7 @@ use Rattle.st_model.specs.declared.state.KnownPool.{KnownPool}
 use Rattle.st_model.specs.declared.state.PoolState.{PoolState}
 use Rattle.st_model.specs.declared.state.TableState.{TableState}
 use Rattle.st_model.specs.Look.{Text, has_path, is_called, flight_of, devices_taken, name_given}
-use Rattle.st_model.specs.steps.EngineStateReport.{started_pools, halted_pools, stopped_with}
+use Rattle.st_model.specs.Shown.{started_pools, halted_pools, stopped_with}
 
 abbrev pub paths_taken : Option Call → List Text
 paths_taken None = []
@@ -41,6 +42,10 @@ started s = started_pools s.pools
 abbrev pub pool_at : Text → List PoolState → Option PoolState
 pool_at name pools = find (is_called name) pools
 
+-- the started pool of this name
+abbrev pub own : Text → EngineState → Option PoolState
+own name s = pool_at name (started s)
+
 -- a known pool uses the device
 abbrev pub is_used : Text → KnownPool → Bool
 is_used path pool = has_path path pool.devices
@@ -53,7 +58,12 @@ free_of names rows = map (λ (row : DevRow). row.path) (filter (λ (row : DevRow
 abbrev pub shown_table : TableState → TableInfo
 shown_table t = record { next = t.next; free = free_of t.names t.devices; stopped = stopped_with [] t.stopped }
 
--- the states agree on what a want names: on the started pool of its name and on the table, or on all
+-- the states agree on the started pools of these names and on the table
+pub record AgreeOn (is_in : Text → Bool) (s t : EngineState) : Type 0 where
+  pub pools : (n : Text) → is_in n ≡ true → own n s ≡ own n t
+  pub table : table_of s ≡ table_of t
+
+-- the states agree on what a want names: on the started pools of its names and on the table, or on all
 abbrev pub Agree : Want → EngineState → EngineState → Type 0
-Agree (wants.Some name mode) s t = (pool_at name (started s) ≡ pool_at name (started t)) × (table_of s ≡ table_of t)
+Agree (wants.Some names mode) s t = AgreeOn (is_named names) s t
 Agree (wants.All mode) s t = s ≡ t

@@ -1,22 +1,23 @@
 -- which states of the engine are valid
 --
 -- Names and paths carry their own limits, and bytes theirs, in the types of which they are values.
-use Rattle.std.specs.Prelude.{ℕ, ◌≡◌, ◌+◌, ◌^◌, ◌<◌, ◌≤◌, List, length, map, filter, ◌==◌, not, if◌then◌else◌, Bool, true, is_some, Option, Some, None, option_map}
+use Rattle.std.specs.Prelude.{◌≡◌, ◌+◌, ◌<◌, ◌≤◌, List, length, map, Bool, true, is_some, Option, Some, None, option_map}
 use Rattle.std.specs.Ordering.{nat_cmp}
 use Rattle.std.specs.Cmp.Lexicographic.{slice_cmp}
 use Rattle.std.specs.List.{AllByRecursion}
 use Rattle.std.specs.List.Sorted.{IsStrictlySortedBy}
+use Rattle.st_limits.specs.declared.TheConstants.{MAX_DEVICE_SECTORS, MAX_POOLS, MAX_POOL_SERIAL, MAX_RACK_DEVICES}
 use Rattle.st_units.specs.declared.rows.DevRow.{DevRow}
 use Rattle.st_model.specs.declared.call.Call.{Call}
-use Rattle.st_model.specs.declared.call.Call.TheVariants.{CreatePool}
-use Rattle.st_model.specs.declared.entry.Env.TheVariants.{Plain}
-use Rattle.st_model.specs.declared.reply.Reply.{Reply}
+use Rattle.st_model.specs.declared.call.Call.TheVariants.{CreatePool, DestroyPool, RenamePool, AddDataDevs, InitCache, AddCacheDevs, CreateFilesystems, DestroyFilesystems, SnapshotFilesystem, RenameFilesystem, SetSizeLimit, SetFsLimit, SetOverprovisioning, FsWrite, FsRead, Check, SetMerge}
 use Rattle.st_model.specs.declared.state.PoolMode.{PoolMode}
 use Rattle.st_model.specs.declared.state.PoolMode.TheVariants.{Up, Down, Stopped, Unsettled, Incomplete}
 use Rattle.st_model.specs.declared.state.PoolState.{PoolState}
 use Rattle.st_model.specs.declared.state.EngineState.{EngineState}
+use Rattle.st_model.specs.Flight.{state_before}
+use Rattle.st_model.specs.Local.{Outcome}
 use Rattle.st_model.specs.Look.{Text, row_of, first_absent, flight_of, devices_taken, uses, holds}
-use Rattle.st_model.specs.Step.{outcome}
+use Rattle.st_model.specs.Plain.{plain}
 use Rattle.st_model.specs.ValidPool.{EachPair, IsValidPool}
 
 -- the rack has the device
@@ -31,8 +32,8 @@ pub record Apart (rows : List DevRow) (p q : PoolState) : Type 0 where
 
 -- the devices of a rack, in byte order of their paths, each path once
 pub record AreRackRows (rows : List DevRow) : Type 0 where
-  pub few : length rows ≤ 64
-  pub small : AllByRecursion (λ (row : DevRow). row.sectors ≤ 2 ^ 32) rows
+  pub few : length rows ≤ MAX_RACK_DEVICES
+  pub small : AllByRecursion (λ (row : DevRow). row.sectors ≤ MAX_DEVICE_SECTORS) rows
   pub rising : IsStrictlySortedBy (slice_cmp nat_cmp) (map (λ (row : DevRow). row.path) rows)
 
 -- the rack has the pool's device, with the sectors that the pool knows
@@ -51,36 +52,49 @@ AreThere rows p Stopped = AllByRecursion (IsRow rows) p.devices
 AreThere rows p (Unsettled call) = AllByRecursion (IsRow rows) p.devices × AreTaken rows call
 AreThere rows p (Incomplete path) = first_absent (map (λ (row : DevRow). row.path) p.devices) rows ≡ Some path
 
--- the pool, which is started where it has this serial
-abbrev pub started_as : ℕ → PoolState → PoolState
-started_as serial p = if p.serial == serial then record p { mode = Up } else p
+-- the calls whose writes may fail, each on the pool of this name
+abbrev pub IsOn : Text → Call → Type 0
+IsOn n (CreatePool name devices) = name ≡ n
+IsOn n (DestroyPool name) = name ≡ n
+IsOn n (RenamePool name new) = name ≡ n
+IsOn n (AddDataDevs pool devices) = pool ≡ n
+IsOn n (InitCache pool devices) = pool ≡ n
+IsOn n (AddCacheDevs pool devices) = pool ≡ n
+IsOn n (CreateFilesystems pool filesystems) = pool ≡ n
+IsOn n (DestroyFilesystems pool names) = pool ≡ n
+IsOn n (SnapshotFilesystem pool origin name) = pool ≡ n
+IsOn n (RenameFilesystem pool name new) = pool ≡ n
+IsOn n (SetSizeLimit pool name limit) = pool ≡ n
+IsOn n (SetFsLimit pool limit) = pool ≡ n
+IsOn n (SetOverprovisioning pool value) = pool ≡ n
+IsOn n (FsWrite pool name sector payload) = pool ≡ n
+IsOn n (FsRead pool name sector sectors) = pool ≡ n
+IsOn n (Check pool) = pool ≡ n
+IsOn n (SetMerge pool name value) = pool ≡ n
+IsOn n call = ⊥
 
-abbrev pub all_but : ℕ → List PoolState → List PoolState
-all_but serial = filter (λ (p : PoolState). not (p.serial == serial))
-
--- the state before the call in flight of the pool: the pool started, as it was before the call; and for a call
--- that was to make it, the other pools, with its serial as the next one
-abbrev pub state_before : EngineState → PoolState → Call → EngineState
-state_before s p (CreatePool name devices) = record s { pools = all_but p.serial s.pools; next = p.serial }
-state_before s p _ = record s { pools = map (started_as p.serial) s.pools }
+abbrev pub IsOnIfAny : Text → Option Call → Type 0
+IsOnIfAny n None = Unit {0}
+IsOnIfAny n (Some call) = IsOn n call
 
 -- an outcome that is an acceptance
-abbrev pub IsAccepted : Option (Reply × EngineState) → Type 0
+abbrev pub IsAccepted : Outcome → Type 0
 IsAccepted None = ⊥
 IsAccepted (Some answered) = answered.0.code ≡ 0
 
--- the call in flight, if there is one, would have been accepted where it was made
+-- the call in flight, if there is one, would have been accepted where it was made, and so is sound
 abbrev pub IsFlight : EngineState → PoolState → Option Call → Type 0
 IsFlight s p None = Unit {0}
-IsFlight s p (Some call) = IsAccepted (outcome (state_before s p call) call Plain)
+IsFlight s p (Some call) = IsAccepted (plain (state_before s p call) call)
 
 -- Pools stand in order of creation.
 pub record IsValid (s : EngineState) : Type 0 where
   pub from_one : 1 ≤ s.next
-  pub bounded : s.next ≤ 2 ^ 48 + 1
+  pub bounded : s.next ≤ MAX_POOL_SERIAL + 1
   pub rack : AreRackRows s.devices
-  pub count : length s.pools ≤ 16
+  pub count : length s.pools ≤ MAX_POOLS
   pub pools : AllByRecursion (IsValidPool s.next) s.pools
   pub there : AllByRecursion (λ (p : PoolState). AreThere s.devices p p.mode) s.pools
+  pub on : AllByRecursion (λ (p : PoolState). IsOnIfAny p.name (flight_of p.mode)) s.pools
   pub flights : AllByRecursion (λ (p : PoolState). IsFlight s p (flight_of p.mode)) s.pools
   pub apart : EachPair (Apart s.devices) s.pools

@@ -1,17 +1,19 @@
 -- which states of a pool are valid
-use Rattle.std.specs.Prelude.{ℕ, ◌≡◌, ◌≢◌, ◌*◌, ◌/◌, ◌%◌, ◌^◌, ◌<◌, ◌≤◌, ◌==◌, List, [], ◌∷◌, length, Bool, true, false, Option, Some, None, bytes_eq}
+use Rattle.std.specs.Prelude.{ℕ, ◌≡◌, ◌≢◌, ◌*◌, ◌/◌, ◌%◌, ◌^◌, ◌<◌, ◌≤◌, ◌==◌, ◌&&◌, List, [], ◌∷◌, length, Bool, true, false, Option, Some, None, bytes_eq}
 use Rattle.std.specs.List.{AllByRecursion, list_any}
+use Rattle.st_limits.specs.Sums.{cache_capacity}
+use Rattle.st_limits.specs.declared.TheConstants.{BLOCK_BYTES, BLOCK_SECTORS, MAX_COMMITS, MAX_FILESYSTEMS, MAX_FS_SECTORS, MAX_MAPPINGS, MIN_DEVICE_SECTORS}
 use Rattle.st_units.specs.declared.rows.DevRow.{DevRow}
 use Rattle.st_model.specs.declared.call.Call.{Call}
-use Rattle.st_model.specs.declared.call.Call.TheVariants.{CreatePool, DestroyPool, StopPool, StartPool, RenamePool, AddDataDevs, InitCache, AddCacheDevs, CreateFilesystems, DestroyFilesystems, SnapshotFilesystem, RenameFilesystem, SetSizeLimit, SetFsLimit, SetOverprovisioning, FsWrite, FsRead, Check, PoolReport, EngineStateReport, PowerCycle}
+use Rattle.st_model.specs.declared.call.Call.TheVariants.{CreatePool}
 use Rattle.st_model.specs.declared.state.CacheState.{CacheState}
 use Rattle.st_model.specs.declared.state.FsState.{FsState}
 use Rattle.st_model.specs.declared.state.PoolMode.{PoolMode}
 use Rattle.st_model.specs.declared.state.PoolMode.TheVariants.{Up, Down, Stopped, Unsettled, Incomplete}
 use Rattle.st_model.specs.declared.state.PoolState.{PoolState}
 use Rattle.st_model.specs.Look.{Text}
-use Rattle.st_model.specs.Sums.{AreSmall, cache_rows, blocks_of, mappings, room, used}
-use Rattle.st_model.specs.steps.CreatePool.{is_data}
+use Rattle.st_model.specs.Merged.{is_mapped}
+use Rattle.st_model.specs.Sums.{AreSmall, cache_rows, is_data, mappings, room, sectors_in, used}
 
 module _ {X : Type 0} where
   -- so it is of each item and each one after it
@@ -29,9 +31,9 @@ IsMap {X} = EachPair (λ (a b : ℕ × X). a.0 < b.0)
 
 -- a size of a filesystem, or a limit of one: whole blocks, up to the greatest size
 pub record IsSize (sectors : ℕ) : Type 0 where
-  pub whole : sectors % 128 ≡ 0
-  pub some : 128 ≤ sectors
-  pub bounded : sectors ≤ 2 ^ 32
+  pub whole : sectors % BLOCK_SECTORS ≡ 0
+  pub some : BLOCK_SECTORS ≤ sectors
+  pub bounded : sectors ≤ MAX_FS_SECTORS
 
 -- a limit, where there is one, is a size that isn't below the filesystem's own
 abbrev pub IsLimit : ℕ → Option ℕ → Type 0
@@ -45,6 +47,15 @@ has_serial serial = list_any (λ (fs : FsState). fs.row.serial == serial)
 abbrev pub IsOrigin : List FsState → ℕ → Option ℕ → Type 0
 IsOrigin filesystems serial None = Unit {0}
 IsOrigin filesystems serial (Some origin) = (origin < serial) × (has_serial origin filesystems ≡ true)
+
+abbrev pub is_marked : ℕ → List FsState → Bool
+is_marked serial = list_any (λ (fs : FsState). fs.row.merge && (fs.row.serial == serial))
+
+-- a filesystem that is marked has an origin, which isn't marked
+abbrev pub IsMark : List FsState → Bool → Option ℕ → Type 0
+IsMark filesystems false origin = Unit {0}
+IsMark filesystems true None = ⊥
+IsMark filesystems true (Some origin) = is_marked origin filesystems ≡ false
 
 -- a block of so many has a cell that was given out and is kept
 pub record IsMapping (p : PoolState) (blocks block cell : ℕ) : Type 0 where
@@ -60,22 +71,20 @@ pub record IsValidFs (p : PoolState) (fs : FsState) : Type 0 where
   pub size : IsSize fs.row.size
   pub limit : IsLimit fs.row.size fs.row.limit
   pub origin : IsOrigin p.filesystems fs.row.serial fs.row.origin
+  pub mark : IsMark p.filesystems fs.row.merge fs.row.origin
   pub map : IsMap fs.map
-  pub mapped : AllByRecursion (λ (entry : ℕ × ℕ). IsMapping p (fs.row.size / 128) entry.0 entry.1) fs.map
+  pub mapped : AllByRecursion (λ (entry : ℕ × ℕ). IsMapping p (fs.row.size / BLOCK_SECTORS) entry.0 entry.1) fs.map
 
--- an older filesystem and a younger one: serials rise, and names differ
+-- an older filesystem and a younger one: serials rise, names differ, and no two that are marked have one origin
 pub record AreFsPair (older younger : FsState) : Type 0 where
   pub serials : older.row.serial < younger.row.serial
   pub names : older.row.name ≢ younger.row.name
-
--- some block of some filesystem has the cell
-abbrev pub is_mapped : List FsState → ℕ → Bool
-is_mapped filesystems cell = list_any (λ (fs : FsState). list_any (λ (entry : ℕ × ℕ). entry.1 == cell) fs.map) filesystems
+  pub marks : older.row.merge ≡ true → younger.row.merge ≡ true → older.row.origin ≢ younger.row.origin
 
 -- a cell that the pool keeps is mapped, and has a block of bytes
 pub record IsCell (p : PoolState) (cell : ℕ) (bytes : List ℕ) : Type 0 where
   pub mapped : is_mapped p.filesystems cell ≡ true
-  pub full : length bytes ≡ 65536
+  pub full : length bytes ≡ BLOCK_BYTES
 
 -- there is a first device, and it is a data device
 abbrev pub StartsWithData : List DevRow → Type 0
@@ -86,13 +95,13 @@ StartsWithData (row ∷ rows) = is_data row.tier ≡ true
 pub record AreDevices (rows : List DevRow) : Type 0 where
   pub first : StartsWithData rows
   pub small : AreSmall rows
-  pub large : AllByRecursion (λ (row : DevRow). 8192 ≤ row.sectors) rows
+  pub large : AllByRecursion (λ (row : DevRow). MIN_DEVICE_SECTORS ≤ row.sectors) rows
   pub distinct : EachPair (λ (a b : DevRow). a.path ≢ b.path) rows
 
 -- a cache is on cache devices, and lists cells of the pool
 pub record IsValidCache (p : PoolState) (cache : CacheState) : Type 0 where
   pub on : 1 ≤ length (cache_rows p.devices)
-  pub capacity : cache.capacity ≡ blocks_of (cache_rows p.devices)
+  pub capacity : cache.capacity ≡ cache_capacity (sectors_in (cache_rows p.devices))
   pub few : length cache.cells ≤ cache.capacity
   pub distinct : EachPair (λ (a b : ℕ). a ≢ b) cache.cells
   pub kept : AllByRecursion (λ cell. has_number cell p.cells ≡ true) cache.cells
@@ -119,8 +128,8 @@ pub record IsWhole (p : PoolState) : Type 0 where
   pub devices : AreDevices p.devices
   pub ordered : EachPair AreFsPair p.filesystems
   pub filesystems : AllByRecursion (IsValidFs p) p.filesystems
-  pub count : length p.filesystems ≤ 128
-  pub mappings : mappings p ≤ 32768
+  pub count : length p.filesystems ≤ MAX_FILESYSTEMS
+  pub mappings : mappings p ≤ MAX_MAPPINGS
   pub cell_map : IsMap p.cells
   pub cells : AllByRecursion (λ (entry : ℕ × List ℕ). IsCell p entry.0 entry.1) p.cells
   pub used : used p ≤ p.allocated
@@ -128,9 +137,9 @@ pub record IsWhole (p : PoolState) : Type 0 where
   pub cell_from_one : 1 ≤ p.next_cell
   pub cell_bounded : p.next_cell ≤ 2 * p.commits
   pub filesystem_from_one : 1 ≤ p.next_filesystem
-  pub filesystem_bounded : p.next_filesystem ≤ 128 * p.commits
-  pub commits : p.commits ≤ 2 ^ 48
-  pub limit : p.filesystem_limit ≤ 128
+  pub filesystem_bounded : p.next_filesystem ≤ MAX_FILESYSTEMS * p.commits
+  pub commits : p.commits ≤ MAX_COMMITS
+  pub limit : p.filesystem_limit ≤ MAX_FILESYSTEMS
   pub cache : IsCacheOf p p.cache
 
 -- a pool that isn't up: its cache is cold
@@ -169,35 +178,11 @@ abbrev pub IsBefore : PoolState → Call → Type 0
 IsBefore p (CreatePool name devices) = IsBegun p name devices
 IsBefore p _ = IsHalted p
 
--- the calls whose writes may fail, each on the pool of this name
-abbrev pub IsOn : Text → Call → Type 0
-IsOn n (CreatePool name devices) = name ≡ n
-IsOn n (DestroyPool name) = name ≡ n
-IsOn n (StopPool name) = ⊥
-IsOn n (StartPool id) = ⊥
-IsOn n (RenamePool name new) = name ≡ n
-IsOn n (AddDataDevs pool devices) = pool ≡ n
-IsOn n (InitCache pool devices) = pool ≡ n
-IsOn n (AddCacheDevs pool devices) = pool ≡ n
-IsOn n (CreateFilesystems pool filesystems) = pool ≡ n
-IsOn n (DestroyFilesystems pool names) = pool ≡ n
-IsOn n (SnapshotFilesystem pool origin name) = pool ≡ n
-IsOn n (RenameFilesystem pool name new) = pool ≡ n
-IsOn n (SetSizeLimit pool name limit) = pool ≡ n
-IsOn n (SetFsLimit pool limit) = pool ≡ n
-IsOn n (SetOverprovisioning pool value) = pool ≡ n
-IsOn n (FsWrite pool name sector payload) = pool ≡ n
-IsOn n (FsRead pool name sector sectors) = pool ≡ n
-IsOn n (Check pool) = pool ≡ n
-IsOn n (PoolReport pool) = ⊥
-IsOn n EngineStateReport = ⊥
-IsOn n PowerCycle = ⊥
-
 abbrev pub IsValidIn : PoolState → PoolMode → Type 0
 IsValidIn p Up = IsWhole p
-IsValidIn p (Down call) = IsBefore p call × IsOn p.name call
+IsValidIn p (Down call) = IsBefore p call
 IsValidIn p Stopped = IsHalted p
-IsValidIn p (Unsettled call) = IsBefore p call × IsOn p.name call
+IsValidIn p (Unsettled call) = IsBefore p call
 IsValidIn p (Incomplete path) = IsLacking p path
 
 -- a pool whose serial was given out before the next one; its devices are small in each mode

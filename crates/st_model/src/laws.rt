@@ -1,13 +1,8 @@
-ghost use Rattle.st_model.specs.Laws.{KeepsValidity, Locality, Outcomes, ReadsKeep};
+ghost use Rattle.st_model.specs.Laws.{KeepsValidity, Locality, ReadsKeep, StepLocality};
 
 /// A step keeps validity, whatever the call met.
 pub fn step_keeps_validity()
     ensures { KeepsValidity }
-{}
-
-/// A call on one pool is local.
-pub fn step_is_local()
-    ensures { Locality }
 {}
 
 /// A call that reads changes no state.
@@ -15,7 +10,12 @@ pub fn reads_change_nothing()
     ensures { ReadsKeep }
 {}
 
-/// What a call may meet, what it answers and what it leaves of what it wants depend on that alone.
-pub fn outcomes_are_local()
-    ensures { Outcomes }
+/// A call whose want names pools is local to them, whatever it met.
+pub fn outcome_is_local()
+    ensures { Locality }
+{}
+
+/// So a step is, as histories need it.
+pub fn step_is_local()
+    ensures { StepLocality }
 {}

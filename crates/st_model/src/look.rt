@@ -7,19 +7,22 @@ use crate::state::{PoolMode, PoolState};
 use st_units::{DevList, DevPath, DevRow, Name, NoMemory};
 use std::alloc::Global;
 
-pub(crate) fn has_path(paths: &[DevPath], path: &DevPath) -> bool
+/// Whether the path is among these.
+pub fn has_path(paths: &[DevPath], path: &DevPath) -> bool
     ensures { result ≡ has_path path.now paths.now }
 {
     paths.iter().any(|p| p.bytes() == path.bytes())
 }
 
-pub(crate) fn row_of<'a>(rows: &'a [DevRow], path: &DevPath) -> Option<&'a DevRow>
+/// The row of the device.
+pub fn row_of<'a>(rows: &'a [DevRow], path: &DevPath) -> Option<&'a DevRow>
     ensures { option_copied result ≡ row_of path.now rows.now }
 {
     rows.iter().find(|row| row.path.bytes() == path.bytes())
 }
 
-pub(crate) fn first_absent<'a>(paths: &'a [DevPath], rows: &[DevRow]) -> Option<&'a DevPath>
+/// The first path that no row has.
+pub fn first_absent<'a>(paths: &'a [DevPath], rows: &[DevRow]) -> Option<&'a DevPath>
     ensures { option_copied result ≡ first_absent paths.now rows.now }
 {
     paths.iter().find(|path| row_of(rows, path).is_none())
@@ -38,7 +41,7 @@ fn keep(list: &mut DevList, path: &DevPath) -> Result<(), NoMemory>
 
 /// Each path once, at its first place.
 #[tactic(auto, using(crate::proofs::Distinct::kept_step, crate::proofs::Distinct::unseen_by_none))]
-pub(crate) fn distinct(alloc: Global, paths: &[DevPath]) -> Result<DevList, NoMemory>
+pub fn distinct(alloc: Global, paths: &[DevPath]) -> Result<DevList, NoMemory>
     ensures { IfOk result (λ list. list ≡ distinct paths.now) }
 {
     let mut list = DevList::make(alloc);
@@ -78,25 +81,29 @@ fn flight_takes(mode: &PoolMode, path: &DevPath) -> bool
     }
 }
 
-pub(crate) fn uses(pool: &PoolState, path: &DevPath) -> bool
+/// Whether the pool uses the device: in its state, or in its call in flight.
+pub fn uses(pool: &PoolState, path: &DevPath) -> bool
     ensures { result ≡ uses path.now pool.now }
 {
     row_of(pool.devices.items(), path).is_some() || flight_takes(&pool.mode, path)
 }
 
-pub(crate) fn pool_using<'a>(pools: &'a [PoolState], path: &DevPath) -> Option<&'a PoolState>
+/// The pool that uses the device.
+pub fn pool_using<'a>(pools: &'a [PoolState], path: &DevPath) -> Option<&'a PoolState>
     ensures { option_copied result ≡ pool_using path.now pools.now }
 {
     pools.iter().find(|pool| uses(pool, path))
 }
 
-pub(crate) fn first_used<'a>(paths: &'a [DevPath], pools: &[PoolState]) -> Option<&'a DevPath>
+/// The first path that some pool uses.
+pub fn first_used<'a>(paths: &'a [DevPath], pools: &[PoolState]) -> Option<&'a DevPath>
     ensures { option_copied result ≡ first_used paths.now pools.now }
 {
     paths.iter().find(|path| pool_using(pools, path).is_some())
 }
 
-pub(crate) fn is_called(pool: &PoolState, name: &Name) -> bool
+/// Whether this is the pool of the name.
+pub fn is_called(pool: &PoolState, name: &Name) -> bool
     ensures { result ≡ is_called name.now pool.now }
 {
     pool.name.bytes() == name.bytes()
@@ -126,19 +133,22 @@ fn holds(pool: &PoolState, name: &Name) -> bool
     is_called(pool, name) || flight_gives(&pool.mode, name)
 }
 
-pub(crate) fn holder<'a>(pools: &'a [PoolState], name: &Name) -> Option<&'a PoolState>
+/// The pool that holds the name.
+pub fn holder<'a>(pools: &'a [PoolState], name: &Name) -> Option<&'a PoolState>
     ensures { option_copied result ≡ holder name.now pools.now }
 {
     pools.iter().find(|pool| holds(pool, name))
 }
 
-pub(crate) fn is_up(mode: &PoolMode) -> bool
+/// Started, and no write failed.
+pub fn is_up(mode: &PoolMode) -> bool
     ensures { result ≡ is_up mode.now }
 {
     matches!(mode, PoolMode::Up)
 }
 
-pub(crate) fn is_started(mode: &PoolMode) -> bool
+/// Started.
+pub fn is_started(mode: &PoolMode) -> bool
     ensures { result ≡ is_started mode.now }
 {
     matches!(mode, PoolMode::Up | PoolMode::Down(_))

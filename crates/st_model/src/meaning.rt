@@ -19,7 +19,7 @@ pub trait Cell: Named {
     ghost use Rattle.std.specs.Prelude.{ℕ, Bool};
     ghost use Rattle.st_model.specs.declared.info.PoolInfo.{PoolInfo};
     ghost use Rattle.st_model.specs.declared.state.PoolState.{PoolState};
-    ghost use Rattle.st_model.specs.steps.EngineStateReport.{pool_info};
+    ghost use Rattle.st_model.specs.Shown.{pool_info};
 
     /// What a report shows of a pool.
     type Info: Named + Send + Sync + Drop;

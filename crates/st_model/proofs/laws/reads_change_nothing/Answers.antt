@@ -1,4 +1,4 @@
-use Rattle.st_model.proofs.Local.{reads-keep}
+use Rattle.st_model.proofs.Reading.{reads-keep}
 use Rattle.st_model.proofs.laws.reads_change_nothing.Goals as goal
 
 pub returns : goal.returns

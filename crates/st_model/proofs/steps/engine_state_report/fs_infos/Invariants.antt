@@ -1,6 +1,0 @@
-use Rattle.std.proofs.Common.{◌≡◌, ◌++◌, drop, map}
-use Rattle.st_model.specs.steps.EngineStateReport.{fs_info}
-use Rattle.st_model.proofs.steps.engine_state_report.fs_infos.Given as goal
-
-abbrev pub invariant-loop-fs : goal.invariant-loop-fs
-invariant-loop-fs l = l.list ++ map fs_info (drop l.fs-index l.filesystems) ≡ map fs_info l.filesystems
