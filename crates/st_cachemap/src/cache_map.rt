@@ -85,6 +85,20 @@ impl CacheMap {
         self.misses
     }
 
+    /// The same map once more, with each cell at its place.
+    pub fn copy(&self) -> Result<Self, NoMemory>
+        ensures { IfOk result (λ copy. copy ≡ self.now) }
+    {
+        Ok(CacheMap {
+            order: self.order.copy()?,
+            buckets: self.buckets.copy()?,
+            cells: self.cells.clone()?,
+            len: self.len,
+            hits: self.hits,
+            misses: self.misses,
+        })
+    }
+
     /// The place of a cell of the list. Nothing changes.
     pub fn peek(&self, cell: u64) -> Option<usize>
         ensures place { result ≡ place_in self.now.entries cell }

@@ -49,6 +49,19 @@ impl Links {
         })
     }
 
+    /// The same lists once more.
+    pub fn copy(&self) -> Result<Self, NoMemory>
+        ensures { IfOk result (λ copy. copy ≡ self.now) }
+    {
+        Ok(Links {
+            next: self.next.clone()?,
+            prev: self.prev.clone()?,
+            home: self.home.clone()?,
+            lists: self.lists,
+            places: self.places,
+        })
+    }
+
     /// How many places there are.
     pub fn places(&self) -> usize
         ensures places { result ≡ self.now.places }
