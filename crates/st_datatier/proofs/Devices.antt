@@ -1,57 +1,16 @@
--- the blocks of devices in order: no block stands twice, and how many they are
-use Rattle.std.proofs.Common.{◌≡◌, ℕ, suc, ◌+◌, ◌-◌, ◌<◌, ◌≤◌, inl, inr, Bool, cond, List, [], ◌∷◌, ◌++◌, length, get_or, drop, refl, sym, ap, ap₂, ◌∙◌, arith}
-use Rattle.std.specs.List.{All, sum_by}
+-- the blocks for data: no block stands twice, and how many they are
+use Rattle.std.proofs.Common.{◌≡◌, ℕ, zero, suc, ◌+◌, ◌-◌, ◌*◌, ◌<◌, ◌≤◌, Bool, cond, List, [], ◌∷◌, ◌++◌, length, get_or, take, drop, Some, None, refl, sym, ap, ◌∙◌, arith}
+use Rattle.std.specs.List.{All}
 use Rattle.std.proofs.Math.Dec.{eqb-suc-zero}
-use Rattle.std.proofs.lemmas.Bool.{cases_lt}
-use Rattle.std.proofs.lemmas.List.{append-nil, append_assoc, length-append, length-drop, drop-append-le, get_or_append_left, get_or-append_right, get_or-drop}
-use Rattle.std.proofs.lemmas.List.Elements.{All-nil, All-append, All-weaker}
+use Rattle.std.proofs.lemmas.List.{get_or-take, length-take, append-nil, length-drop, drop-append-le, get_or-drop}
 use Rattle.std.proofs.lemmas.List.Sums.{sum_by-le, sum_by-cons}
 use Rattle.st_seg.specs.Blocks.{Block, NoneTwice, blocks_from}
-use Rattle.st_seg.proofs.Parts.{length-blocks_from, get_or-blocks_from, drop-blocks_from}
+use Rattle.st_seg.proofs.Parts.{drop-blocks_from}
 use Rattle.st_limits.specs.Sums.{IsDeviceSize, usable_blocks, room}
-use Rattle.st_datatier.specs.Tier.{blocks_of_devices, data_blocks, first_block_of}
-
-joined_apart : (xs ys : List Block) (dev : ℕ) → NoneTwice xs → NoneTwice ys → All (λ (b : Block). b.0 ≡ dev) xs → All (λ (b : Block). dev < b.0) ys → NoneTwice (xs ++ ys)
-joined_apart xs ys dev h g here above i j d below within e =
-    let n = length xs in
-    let all : length (xs ++ ys) ≡ n + length ys = length-append xs ys in
-    elim (cases_lt j n) [
-      | inl second ↦ h i j d below second (sym (get_or_append_left xs ys d i (omega arith)) ∙ (e ∙ get_or_append_left xs ys d j second))
-      | inr second ↦
-          let at : get_or (xs ++ ys) j d ≡ get_or ys (j - n) d = get_or-append_right xs ys n j d refl second in
-          elim (cases_lt i n) [
-            | inl first ↦
-                let same : get_or xs i d ≡ get_or ys (j - n) d = sym (get_or_append_left xs ys d i first) ∙ (e ∙ at) in
-                absurd (omega (arith, here i d first, above (j - n) d (omega arith), ap (λ (b : Block). b.0) same))
-            | inr first ↦ g (i - n) (j - n) d (omega arith) (omega arith) (sym (get_or-append_right xs ys n i d refl first) ∙ (e ∙ at))
-          ]
-    ]
-
-pub device_apart : (dev first n : ℕ) → NoneTwice (blocks_from dev first n)
-device_apart dev first n i j d below within e =
-    let short : j < n = omega (arith, length-blocks_from dev first n) in
-    let same = sym (get_or-blocks_from dev first n i d (omega arith)) ∙ (e ∙ get_or-blocks_from dev first n j d short) in
-    absurd (omega (arith, ap (λ (b : Block). b.1) same))
-
-of_device : (dev first n : ℕ) → All (λ (b : Block). b.0 ≡ dev) (blocks_from dev first n)
-of_device dev first n k d w = ap (λ (b : Block). b.0) (get_or-blocks_from dev first n k d (omega (arith, length-blocks_from dev first n)))
-
-from_device : (sectors : List ℕ) (dev : ℕ) → All (λ (b : Block). dev ≤ b.0) (blocks_of_devices dev sectors)
-from_device [] dev = All-nil (λ (b : Block). dev ≤ b.0)
-from_device (size ∷ more) dev =
-    All-append (λ (b : Block). dev ≤ b.0) (blocks_from dev 0 (usable_blocks size)) (blocks_of_devices (dev + 1) more)
-    (All-weaker (λ (b : Block). b.0 ≡ dev) (λ (b : Block). dev ≤ b.0) (λ b h. omega arith) _ (of_device dev 0 (usable_blocks size)))
-    (All-weaker (λ (b : Block). dev + 1 ≤ b.0) (λ (b : Block). dev ≤ b.0) (λ b h. omega arith) _ (from_device more (dev + 1)))
-
-none_apart : NoneTwice []
-none_apart i j d below within e = absurd (omega arith)
-
-devices_apart : (sectors : List ℕ) (dev : ℕ) → NoneTwice (blocks_of_devices dev sectors)
-devices_apart [] dev = none_apart
-devices_apart (size ∷ more) dev =
-    joined_apart (blocks_from dev 0 (usable_blocks size)) (blocks_of_devices (dev + 1) more) dev
-    (device_apart dev 0 (usable_blocks size)) (devices_apart more (dev + 1)) (of_device dev 0 (usable_blocks size))
-    (All-weaker (λ (b : Block). dev + 1 ≤ b.0) (λ (b : Block). dev < b.0) (λ b h. omega arith) _ (from_device more (dev + 1)))
+use Rattle.st_linear.specs.Devices.{blocks_of_devices}
+use Rattle.st_linear.specs.Places.{place_of, place_at}
+use Rattle.st_linear.proofs.Devices.{devices_apart, length-devices, devices-push, OnDevice, on_device}
+use Rattle.st_datatier.specs.Tier.{data_blocks, first_block_of, LiesOn}
 
 dropped_apart : (n : ℕ) (blocks : List Block) → NoneTwice blocks → NoneTwice (drop n blocks)
 dropped_apart n blocks h i j d below within e =
@@ -60,13 +19,6 @@ dropped_apart n blocks h i j d below within e =
 pub data_apart : (sectors : List ℕ) → NoneTwice (data_blocks sectors)
 unfolding data_blocks
 data_apart sectors = dropped_apart 26 (blocks_of_devices 0 sectors) (devices_apart sectors 0)
-
-length-devices : (sectors : List ℕ) (dev : ℕ) → length (blocks_of_devices dev sectors) ≡ sum_by usable_blocks sectors
-length-devices [] dev = refl
-length-devices (size ∷ more) dev =
-    length-append (blocks_from dev 0 (usable_blocks size)) (blocks_of_devices (dev + 1) more)
-    ∙ (ap₂ (λ m n. m + n) (length-blocks_from dev 0 (usable_blocks size)) (length-devices more (dev + 1))
-    ∙ sym (sum_by-cons usable_blocks size more))
 
 pub length-data_blocks : (sectors : List ℕ) → length (data_blocks sectors) ≡ room sectors
 unfolding data_blocks
@@ -77,14 +29,6 @@ pub room_fits : (sectors : List ℕ) → length sectors ≤ 16 → All IsDeviceS
 room_fits sectors h g =
     let each : All (λ size. usable_blocks size ≤ 33554432) sectors = λ k d w. omega (arith, g k d w) in
     omega (arith, sum_by-le usable_blocks 33554432 sectors each)
-
-devices-push : (sectors : List ℕ) (dev size : ℕ) → blocks_of_devices dev (sectors ++ size ∷ []) ≡ blocks_of_devices dev sectors ++ blocks_from (dev + length sectors) 0 (usable_blocks size)
-devices-push [] dev size =
-    let e : dev + 0 ≡ dev = omega arith in
-    rw e (append-nil (blocks_from dev 0 (usable_blocks size)))
-devices-push (first ∷ more) dev size =
-    let e : dev + suc (length more) ≡ (dev + 1) + length more = omega arith in
-    rw e (ap (λ bs. blocks_from dev 0 (usable_blocks first) ++ bs) (devices-push more (dev + 1) size) ∙ sym (append_assoc (blocks_from dev 0 (usable_blocks first)) (blocks_of_devices (dev + 1) more) _))
 
 first_later : (n : ℕ) → first_block_of (suc n) ≡ 0
 first_later n = ap (λ (b : Bool). cond b 26 0) (eqb-suc-zero n)
@@ -111,3 +55,34 @@ data_blocks-push (first ∷ more) size h =
 pub no_blocks : data_blocks [] ≡ []
 unfolding data_blocks
 no_blocks = refl
+
+-- where a block for data lies, by the device that it is of
+place_at-some : (blocks : List Block) (b : ℕ) (p : ℕ × ℕ) → place_at blocks b ≡ Some p → (b < length blocks) × (p ≡ place_of (get_or blocks b (0, 0)))
+place_at-some [] b p e = absurd (let bad : None ≡ Some p = e in cc)
+place_at-some (x ∷ blocks) zero p e = (omega arith, (let same : Some (place_of x) ≡ Some p = e in cc))
+place_at-some (x ∷ blocks) (suc b) p e =
+    let there = place_at-some blocks b p e in
+    (omega (arith, there.0), there.1)
+
+lies_from : (sectors : List ℕ) (b : ℕ) (block : Block) (dev first : ℕ) → OnDevice 0 sectors (26 + b) block → (dev, first) ≡ place_of block → LiesOn sectors dev first
+lies_from sectors b block dev first on place =
+    let dev_is : dev ≡ on.number = omega (arith, ap (λ (p : ℕ × ℕ). p.0) place, on.device) in
+    let first_is : first ≡ 256 + 128 * block.1 = ap (λ (p : ℕ × ℕ). p.1) place in
+    let size : get_or sectors dev 0 ≡ get_or sectors on.number 0 = ap (λ (k : ℕ). get_or sectors k 0) dev_is in
+    record {
+      device = omega (arith, on.within);
+      behind_head = omega arith;
+      behind_flex = λ (z : dev ≡ 0). omega (arith, on.first (omega arith));
+      within = omega (arith, on.usable);
+    }
+
+pub lies_on : (sectors : List ℕ) (n b dev first : ℕ) → place_at (take n (data_blocks sectors)) b ≡ Some (dev, first) → LiesOn sectors dev first
+unfolding data_blocks
+lies_on sectors n b dev first e =
+    let all : List Block = blocks_of_devices 0 sectors in
+    let there = place_at-some (take n (drop 26 all)) b (dev, first) e in
+    let short : b < length (drop 26 all) = omega (arith, there.0, length-take n (drop 26 all)) in
+    let inside : 26 + b < length all = omega (arith, length-drop 26 all) in
+    let at : get_or (take n (drop 26 all)) b (0, 0) ≡ get_or all (26 + b) (0, 0) = get_or-take n (drop 26 all) b (0, 0) (omega (arith, there.0, length-take n (drop 26 all))) ∙ get_or-drop 26 all b (0, 0) in
+    let place : (dev, first) ≡ place_of (get_or all (26 + b) (0, 0)) = there.1 ∙ ap place_of at in
+    lies_from sectors b (get_or all (26 + b) (0, 0)) dev first (on_device sectors 0 (26 + b) inside) place

@@ -1,9 +1,10 @@
 -- the data tier: its devices in order, and how many of their blocks are in use
-use Rattle.std.specs.Prelude.{ℕ, ◌+◌, ◌-◌, ◌==◌, List, [], ◌∷◌, ◌++◌, map, drop, if◌then◌else◌}
+use Rattle.std.specs.Prelude.{◌≡◌, ℕ, ◌+◌, ◌-◌, ◌*◌, ◌<◌, ◌≤◌, ◌==◌, List, ◌++◌, length, map, drop, slice_index, if◌then◌else◌}
 use Rattle.st_units.specs.declared.rows.DevRow.{DevRow}
-use Rattle.st_seg.specs.Blocks.{Block, blocks_from}
-use Rattle.st_limits.specs.Sums.{usable_blocks, room}
-use Rattle.st_limits.specs.declared.TheConstants.{FLEX_BLOCKS}
+use Rattle.st_seg.specs.Blocks.{Block}
+use Rattle.st_linear.specs.Devices.{blocks_of_devices}
+use Rattle.st_limits.specs.Sums.{room}
+use Rattle.st_limits.specs.declared.TheConstants.{FLEX_BLOCKS, BLOCK_SECTORS, RESERVED_SECTORS}
 
 -- what a data tier stands for: the sectors of its devices, in order, and the blocks that are allocated
 pub record Tier : Type 0 where
@@ -12,11 +13,6 @@ pub record Tier : Type 0 where
 
 abbrev pub sectors_of : List DevRow → List ℕ
 sectors_of rows = map (λ row. row.sectors) rows
-
--- the usable blocks of devices in order, the first of which has the number `dev`
-abbrev pub blocks_of_devices : ℕ → List ℕ → List Block
-blocks_of_devices dev [] = []
-blocks_of_devices dev (sectors ∷ more) = blocks_from dev 0 (usable_blocks sectors) ++ blocks_of_devices (dev + 1) more
 
 -- the blocks for data, in order: the flex area takes the first ones, once in the whole tier
 unfoldable pub data_blocks : List ℕ → List Block
@@ -35,3 +31,10 @@ with_allocated tier n = record { sectors = tier.sectors; allocated = tier.alloca
 -- the first block for data of the device of this number
 abbrev pub first_block_of : ℕ → ℕ
 first_block_of dev = if dev == 0 then FLEX_BLOCKS else 0
+
+-- a place where a block for data may lie: within a device of the tier, and behind what is reserved there
+pub record LiesOn (sectors : List ℕ) (dev first : ℕ) : Type 0 where
+  pub device : dev < length sectors
+  pub behind_head : RESERVED_SECTORS ≤ first
+  pub behind_flex : dev ≡ 0 → RESERVED_SECTORS + BLOCK_SECTORS * FLEX_BLOCKS ≤ first
+  pub within : first + BLOCK_SECTORS ≤ slice_index sectors dev

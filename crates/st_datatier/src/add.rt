@@ -48,7 +48,7 @@ fn add_device(sectors: &mut Vec<u64>, free: &mut SegAlloc, size: u64) -> Result<
 }
 
 /// The first block for data of the device of this number.
-fn first_block(dev: u16) -> u32
+pub fn first_block(dev: u16) -> u32
     ensures { result ≡ first_block_of dev }
 {
     if dev == 0 { FLEX_BLOCKS as u32 } else { 0 }

@@ -2,6 +2,9 @@
 #![tactic(auto)]
 
 mod add;
+mod laws;
+mod segments;
 mod tier;
 
+pub use laws::blocks_lie_on_devices;
 pub use tier::DataTier;

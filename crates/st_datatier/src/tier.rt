@@ -3,12 +3,14 @@ ghost use Rattle.std.specs.List.{All};
 ghost use Rattle.st_seg.specs.declared.fault.SegFault.TheVariants.{NoRoom};
 ghost use Rattle.st_limits.specs.Sums.{IsDeviceSize};
 ghost use Rattle.st_limits.specs.Sums as sums;
+ghost use Rattle.st_datatier.specs.Segments.{data_sectors, segment_rows};
 ghost use Rattle.st_datatier.specs.Tier.{data_blocks, free_of, sectors_of, with_allocated, with_devices};
 
 use crate::add::add_rows;
+use crate::segments::segment_rows;
 use st_linear::LinearTable;
 use st_seg::{SegAlloc, SegFault};
-use st_units::{DevRows, NoMemory};
+use st_units::{DevRows, NoMemory, SegList};
 use std::alloc::Global;
 use std::marker::Model;
 
@@ -110,6 +112,17 @@ impl DataTier {
         ensures { result.now ≡ take self.now.allocated (data_blocks self.now.sectors) }
     {
         &self.table
+    }
+
+    /// The blocks in use, as a record of the pool's rows has them: a segment a data device at most,
+    /// which names the row of its device.
+    pub fn segments(&self, alloc: Global, rows: &DevRows) -> Result<SegList, NoMemory>
+        requires few { length rows.now ≤ 16 }
+        requires sizes { All IsDeviceSize (sectors_of rows.now) }
+        requires devices { data_sectors rows.now ≡ self.now.sectors }
+        ensures { IfOk result (λ segments. segments ≡ segment_rows 0 self.now.allocated rows.now) }
+    {
+        segment_rows(alloc, rows.items(), self.table.length())
     }
 
     /// The same tier once more.

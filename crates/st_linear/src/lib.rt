@@ -4,5 +4,5 @@
 mod laws;
 mod table;
 
-pub use laws::{extension_keeps_places, places_differ};
+pub use laws::{devices_apart, extension_keeps_places, places_differ};
 pub use table::LinearTable;

@@ -1,7 +1,7 @@
 use Rattle.std.proofs.Common.{◌≡◌, List, [], ◌++◌, sym, subst, ap}
 use Rattle.st_seg.specs.Blocks.{Block, NoneTwice, blocks_from}
 use Rattle.st_seg.specs.Stock.{added}
-use Rattle.st_datatier.proofs.Devices.{device_apart}
+use Rattle.st_linear.proofs.Devices.{device_apart}
 use Rattle.test_leaves.proofs.tiers.stock.Goals as goal
 
 pub add-requires-clause-new : goal.add-requires-clause-new
