@@ -1,3 +1,4 @@
 pub mod Rising
+pub mod Sharing
 pub mod Symmetry
 pub mod Turns

@@ -33,3 +33,23 @@ compatible a b = both_read (mode_of a) (mode_of b) || pools_differ a b
 -- they may not be granted at one time
 abbrev pub conflict : Want → Want → Bool
 conflict a b = not (compatible a b)
+
+-- the want lets its holder change the pool of this name
+abbrev pub writes : Want → List ℕ → Bool
+writes (Some names Write) name = is_named names name
+writes (Some names Read) name = false
+writes (All Write) name = true
+writes (All Read) name = false
+
+-- the want shows its holder the pool of this name, which it doesn't let it change
+abbrev pub reads : Want → List ℕ → Bool
+reads (Some names Write) name = false
+reads (Some names Read) name = is_named names name
+reads (All Write) name = false
+reads (All Read) name = true
+
+-- the want lets its holder change the table
+abbrev pub takes_table : Want → Bool
+takes_table (Some names m) = false
+takes_table (All Write) = true
+takes_table (All Read) = false

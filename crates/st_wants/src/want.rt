@@ -1,9 +1,9 @@
 ghost use Rattle.std.specs.Prelude.{◌≡◌, IfOk};
 ghost use Rattle.st_wants.specs.declared.want.Want.{Want};
-ghost use Rattle.st_wants.specs.Wants.{compatible, mode_of, pools_differ, share_a_name};
+ghost use Rattle.st_wants.specs.Wants.{compatible, mode_of, pools_differ, reads, share_a_name, takes_table, writes};
 
 use crate::names::Names;
-use st_units::NoMemory;
+use st_units::{Name, NoMemory};
 
 /// What is done with what a want covers.
 #[derive(Debug, Clone, Copy, PartialEq, Eq, Drop)]
@@ -36,6 +36,35 @@ impl Want {
         match self {
             Want::Some(_, mode) | Want::All(mode) => *mode,
         }
+    }
+
+    /// Whether its holder may change the pool of this name.
+    pub fn writes(&self, name: &Name) -> bool
+        ensures { result ≡ writes self.now name.now }
+    {
+        match self {
+            Want::Some(names, Mode::Write) => names.has(name),
+            Want::All(Mode::Write) => true,
+            Want::Some(_, Mode::Read) | Want::All(Mode::Read) => false,
+        }
+    }
+
+    /// Whether its holder sees the pool of this name, and may not change it.
+    pub fn reads(&self, name: &Name) -> bool
+        ensures { result ≡ reads self.now name.now }
+    {
+        match self {
+            Want::Some(names, Mode::Read) => names.has(name),
+            Want::All(Mode::Read) => true,
+            Want::Some(_, Mode::Write) | Want::All(Mode::Write) => false,
+        }
+    }
+
+    /// Whether its holder may change the table.
+    pub fn takes_table(&self) -> bool
+        ensures { result ≡ takes_table self.now }
+    {
+        matches!(self, Want::All(Mode::Write))
     }
 }
 
