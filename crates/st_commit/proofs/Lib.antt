@@ -1,0 +1,13 @@
+pub mod Roles
+pub mod Over
+pub mod Folding
+pub mod Steps
+pub mod Frame
+pub mod Whole
+pub mod Known
+pub mod Writes
+pub mod Flexing
+pub mod Repairing
+pub mod Restart
+pub mod Onward
+pub mod Alike

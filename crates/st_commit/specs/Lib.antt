@@ -1,0 +1,6 @@
+pub mod Standing
+pub mod Ready
+pub mod Reading
+pub mod Repair
+pub mod Restarting
+pub mod inner
