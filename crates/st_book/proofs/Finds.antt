@@ -9,7 +9,7 @@ use Rattle.st_model.specs.declared.info.PoolInfo.{PoolInfo}
 use Rattle.st_model.specs.declared.state.PoolState.{PoolState}
 use Rattle.st_model.specs.Look.{Text, is_called}
 use Rattle.st_model.specs.Parts.{pool_at}
-use Rattle.st_model.specs.steps.EngineStateReport.{pool_info}
+use Rattle.st_model.specs.Shown.{pool_info}
 use Rattle.st_book.specs.Effects.{without_pool, is_info_of, info_at, renewed}
 
 -- one more that fails the test isn't found

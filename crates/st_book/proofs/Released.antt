@@ -14,7 +14,7 @@ use Rattle.st_model.specs.declared.entry.Entry.{Entry}
 use Rattle.st_model.specs.declared.state.EngineState.{EngineState}
 use Rattle.st_model.specs.declared.state.PoolState.{PoolState}
 use Rattle.st_model.specs.Parts.{started, table_of, shown_table}
-use Rattle.st_model.specs.steps.EngineStateReport.{pool_info}
+use Rattle.st_model.specs.Shown.{pool_info}
 use Rattle.st_history.specs.declared.log.Event.TheVariants.{Grant, Release}
 use Rattle.st_history.specs.Failures.{failures, failures_of}
 use Rattle.st_history.specs.History.{moves_of, replay, state_after, IsOf}

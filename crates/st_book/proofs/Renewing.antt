@@ -16,7 +16,7 @@ use Rattle.st_model.specs.declared.state.PoolState.{PoolState}
 use Rattle.st_model.specs.declared.state.TableState.{TableState}
 use Rattle.st_model.specs.Look.{Text, is_started}
 use Rattle.st_model.specs.Parts.{known, pool_at, started, table_of}
-use Rattle.st_model.specs.steps.EngineStateReport.{pool_info, halted_pools}
+use Rattle.st_model.specs.Shown.{pool_info, halted_pools}
 use Rattle.st_history.specs.History.{state_after, AreOneCall, IsOf}
 use Rattle.st_history.proofs.Agreement.{entries_of_want, entries_agree}
 use Rattle.st_book.specs.Back.{all_renewed}

@@ -16,7 +16,7 @@ use Rattle.st_model.specs.declared.state.PoolState.{PoolState}
 use Rattle.st_model.specs.declared.state.TableState.{TableState}
 use Rattle.st_model.specs.Look.{Text}
 use Rattle.st_model.specs.Parts.{pool_at, started, table_of, shown_table}
-use Rattle.st_model.specs.steps.EngineStateReport.{pool_info}
+use Rattle.st_model.specs.Shown.{pool_info}
 use Rattle.st_history.specs.declared.log.Event.{Event}
 use Rattle.st_history.specs.declared.log.Event.TheVariants.{Arrive, Grant}
 use Rattle.st_history.specs.Failures.{failures, failures_in}

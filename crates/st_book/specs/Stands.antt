@@ -16,7 +16,7 @@ use Rattle.st_model.specs.declared.state.EngineState.{EngineState}
 use Rattle.st_model.specs.declared.state.PoolState.{PoolState}
 use Rattle.st_model.specs.Look.{Text}
 use Rattle.st_model.specs.Parts.{pool_at, started, table_of, shown_table}
-use Rattle.st_model.specs.steps.EngineStateReport.{pool_info}
+use Rattle.st_model.specs.Shown.{pool_info}
 use Rattle.st_history.specs.Failures.{failures}
 use Rattle.st_history.specs.History.{History, moves_of, replay, state_after, AreSteps, AreOneCall, IsOf}
 use Rattle.st_book.specs.Effects.{takes_table, info_at}

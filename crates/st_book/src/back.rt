@@ -1,7 +1,7 @@
 ghost use Rattle.std.specs.Prelude.{◌≡◌, ◌+◌, ◌≤◌, ◌<◌, ◌∷◌, ◌++◌, true, false, map, length, bytes_eq, option_map, Some, None, IfSome, []};
 ghost use Rattle.std.specs.List.{AllByRecursion, IsDistinct, sum_by};
 ghost use Rattle.st_model.specs.Parts.{shown_table};
-ghost use Rattle.st_model.specs.steps.EngineStateReport.{pool_info};
+ghost use Rattle.st_model.specs.Shown.{pool_info};
 ghost use Rattle.st_book.specs.Effects.{info_at, renewed};
 ghost use Rattle.st_book.specs.Stands.{AreNamedApart};
 ghost use Rattle.st_book.specs.Back.{all_renewed};

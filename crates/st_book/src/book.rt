@@ -4,7 +4,7 @@ ghost use Rattle.st_wants.specs.Lock.{start, arrived, granted, released, row_at,
 ghost use Rattle.st_grants.specs.Order.{IsLeastTicket};
 ghost use Rattle.st_model.specs.declared.state.EngineState.{EngineState};
 ghost use Rattle.st_model.specs.Parts.{started, table_of, shown_table};
-ghost use Rattle.st_model.specs.steps.EngineStateReport.{pool_info};
+ghost use Rattle.st_model.specs.Shown.{pool_info};
 ghost use Rattle.st_history.specs.Failures.{failures, failures_of};
 ghost use Rattle.st_history.specs.History.{History, replay};
 ghost use Rattle.st_book.specs.Back.{all_renewed};

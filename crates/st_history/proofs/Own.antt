@@ -1,6 +1,6 @@
 -- what a seat's own events tell of its tickets is so
-use Rattle.std.proofs.Common.{ℕ, zero, suc, ◌≡◌, ◌≢◌, ◌==◌, Bool, true, false, ◌||◌, cond, List, [], ◌∷◌, ◌++◌, Some, None, refl, ap, sym, ◌∙◌, subst, arith}
-use Rattle.std.specs.Prelude.{Option, option_map}
+use Rattle.std.proofs.Common.{ℕ, ◌≡◌, ◌≢◌, ◌==◌, Bool, true, false, ◌||◌, cond, List, [], ◌∷◌, ◌++◌, Some, None, refl, ap, sym, ◌∙◌, subst, arith}
+use Rattle.std.specs.Prelude.{Option}
 use Rattle.std.proofs.lemmas.Bool.Decides.{nat_tests}
 use Rattle.st_wants.specs.declared.want.Want.{Want}
 use Rattle.st_wants.specs.declared.row.LockRow.{LockRow}
@@ -79,9 +79,9 @@ row_left_alone n t l q (Grant s u) may ne at seat =
 row_left_alone n t l q (Release s u es) may ne at seat =
     let own = some_and (λ (r : LockRow). (r.live ≡ true) × (r.seat ≡ s)) (row_at u l.rows) may in
     row_stays u t l.rows q (λ tu.
-        let there : row_at t l.rows ≡ Some own.0 = subst (λ z. row_at z l.rows ≡ Some own.0) tu own.1 in
-        let same : q ≡ own.0 = cc in
-        ne (sym own.2.1 ∙ (ap (λ (z : LockRow). z.seat) (sym same) ∙ seat))) at
+    let there : row_at t l.rows ≡ Some own.0 = subst (λ z. row_at z l.rows ≡ Some own.0) tu own.1 in
+    let same : q ≡ own.0 = cc in
+    ne (sym own.2.1 ∙ (ap (λ (z : LockRow). z.seat) (sym same) ∙ seat))) at
 
 differs : (a n : ℕ) → (a == n) ≡ false → a ≢ n
 differs a n e k = let yes : (a == n) ≡ true = grind (arith, nat_tests) in let x : true ≡ false = sym yes ∙ e in cc
@@ -109,8 +109,9 @@ none-released n t l s r (e ∷ es) h at seat none =
     let cases : (b : Bool) → (seat_of e == n) ≡ b → cond b (e ∷ own_of n es) (own_of n es) ≡ [] → NotReleased t (e ∷ es) = elim [
       | true ↦ (λ k g. absurd cc)
       | false ↦ (λ k g. (
-          unreleased e h.0 (differs (seat_of e) n k),
-          none-released n t (lock_after l (move_of e)) (state_past s e) r es h.2 (row_left_alone n t l r e h.0 (differs (seat_of e) n k) at seat) seat g))
+        unreleased e h.0 (differs (seat_of e) n k),
+        none-released n t (lock_after l (move_of e)) (state_past s e) r es h.2 (row_left_alone n t l r e h.0 (differs (seat_of e) n k) at seat) seat g,
+      ))
     ] in
     cases (seat_of e == n) refl none
   where

@@ -1,5 +1,5 @@
 -- what the lock's rows tell of a history
-use Rattle.std.proofs.Common.{ℕ, ◌≡◌, false, List, [], ◌∷◌, ◌++◌, Some, refl, ap, sym, subst, append_assoc, append-nil}
+use Rattle.std.proofs.Common.{ℕ, ◌≡◌, false, List, [], ◌∷◌, ◌++◌, Some, sym, subst, append_assoc, append-nil}
 use Rattle.std.specs.List.{Contains}
 use Rattle.st_wants.specs.declared.row.LockRow.{LockRow}
 use Rattle.st_wants.specs.Lock.{Lock, row_at, start}

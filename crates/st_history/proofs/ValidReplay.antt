@@ -1,6 +1,6 @@
 -- a log leaves a valid state of a valid one
 use Rattle.std.proofs.Common.{List, [], ◌∷◌}
-use Rattle.st_model.proofs.Validity.{step-IsValid}
+use Rattle.st_model.proofs.Validity.{step-keeps}
 use Rattle.st_model.specs.declared.entry.Entry.{Entry}
 use Rattle.st_model.specs.declared.state.EngineState.{EngineState}
 use Rattle.st_model.specs.Step.{step}
@@ -11,7 +11,7 @@ use Rattle.st_history.specs.History.{state_after, state_past, replay}
 
 pub valid_entries : (s : EngineState) (entries : List Entry) → IsValid s → IsValid (state_after s entries)
 valid_entries s [] h = h
-valid_entries s (e ∷ es) h = valid_entries (step s e.call e.env).1 es (step-IsValid s e.call e.env h)
+valid_entries s (e ∷ es) h = valid_entries (step s e.call e.env).1 es (step-keeps s e.call e.env h)
 
 valid_past : (s : EngineState) (e : Event) → IsValid s → IsValid (state_past s e)
 valid_past s (Arrive seat ticket want) h = h

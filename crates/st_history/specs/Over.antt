@@ -1,5 +1,5 @@
 -- what runs for a ticket runs alike in all states that agree on what it wants
-use Rattle.std.specs.Prelude.{◌≡◌, List}
+use Rattle.std.specs.Prelude.{List}
 use Rattle.st_wants.specs.declared.want.Want.{Want}
 use Rattle.st_model.specs.declared.entry.Entry.{Entry}
 use Rattle.st_model.specs.declared.state.EngineState.{EngineState}

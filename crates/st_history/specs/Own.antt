@@ -6,7 +6,7 @@ use Rattle.st_wants.specs.Rules.{lock_run}
 use Rattle.st_model.specs.declared.state.EngineState.{EngineState}
 use Rattle.st_history.specs.declared.log.Event.{Event}
 use Rattle.st_history.specs.declared.log.Event.TheVariants.{Arrive, Grant, Release}
-use Rattle.st_history.specs.History.{History, HistoryFrom, moves_of}
+use Rattle.st_history.specs.History.{History, moves_of}
 
 abbrev pub seat_of : Event → ℕ
 seat_of (Arrive seat ticket want) = seat

@@ -36,7 +36,7 @@ use Rattle.st_book.specs.declared.noted.Noted.{Noted}
 use Rattle.st_grants.proofs.Sound.{some_and}
 use Rattle.st_model.specs.declared.info.PoolInfo.{PoolInfo}
 use Rattle.st_model.specs.Look.{Text}
-use Rattle.st_model.specs.steps.EngineStateReport.{pool_info}
+use Rattle.st_model.specs.Shown.{pool_info}
 use Rattle.st_book.specs.Effects.{IsFitting, info_at}
 use Rattle.st_book.proofs.Named.{name_found, same_found}
 use Rattle.st_book.proofs.Pools.{name_of}

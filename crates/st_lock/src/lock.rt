@@ -1,7 +1,7 @@
 ghost use Rattle.std.specs.Prelude.{◌≡◌, ◌≤◌, ◌<◌, ◌^◌, ◌+◌, ◌-◌, min, length, map, option_map, true, false, [], ◌∷◌, ◌++◌, Ok, Err, IfOk, IfErr, IfSome, IsSomeAnd, OnOk, OnErr, Some, None};
 ghost use Rattle.std.specs.List.{AllByRecursion};
 ghost use Rattle.st_model.specs.Parts.{pool_at, started, table_of, shown_table};
-ghost use Rattle.st_model.specs.steps.EngineStateReport.{pool_info};
+ghost use Rattle.st_model.specs.Shown.{pool_info};
 ghost use Rattle.st_history.specs.Failures.{failures_of};
 ghost use Rattle.st_book.specs.Noted.{grant_with};
 ghost use Rattle.st_book.specs.Stands.{ComesBack, InfosShow, PartStands, PartShows};

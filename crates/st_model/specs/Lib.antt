@@ -9,6 +9,7 @@ pub mod Look
 pub mod Merged
 pub mod OnTable
 pub mod Parts
+pub mod Pieces
 pub mod Plain
 pub mod Shown
 pub mod Sound
