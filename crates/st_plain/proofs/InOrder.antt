@@ -11,7 +11,7 @@ use Rattle.std.proofs.lemmas.Slice.Eq.{bytes_eq-Decides}
 use Rattle.st_model.specs.declared.info.PoolInfo.{PoolInfo}
 use Rattle.st_model.specs.Look.{Text}
 use Rattle.st_model.specs.ValidPool.{EachPair}
-use Rattle.st_model.specs.steps.EngineStateReport.{comes_before, place_among}
+use Rattle.st_model.specs.Shown.{comes_before, place_among}
 use Rattle.st_plain.specs.Parts.{info_at}
 use Rattle.st_plain.specs.Reported.{entered}
 

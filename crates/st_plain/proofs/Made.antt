@@ -26,12 +26,13 @@ use Rattle.st_model.specs.Parts.{known, pool_at, started, table_of}
 use Rattle.st_model.specs.Step.{step}
 use Rattle.st_model.specs.Sums.{AreSmall}
 use Rattle.st_model.specs.Valid.{IsValid}
-use Rattle.st_model.specs.steps.CreatePool.{create_answer, create_plain, data_rows, new_pool, sectors_of, with_pool}
-use Rattle.st_model.specs.steps.EngineStateReport.{started_pools, halted_pools}
+use Rattle.st_model.specs.steps.CreatePool.{create_answer, create_plain, data_rows, new_pool, with_pool}
+use Rattle.st_model.specs.Checks.{sectors_of}
+use Rattle.st_model.specs.Shown.{started_pools, halted_pools}
 use Rattle.st_model.proofs.Fresh.{create_fresh}
 use Rattle.st_model.proofs.Lists.{All-end, All-weaker}
 use Rattle.st_model.proofs.OnTable.{none_called, table_answer-is}
-use Rattle.st_model.proofs.Validity.{step-IsValid}
+use Rattle.st_model.proofs.Validity.{step-keeps}
 use Rattle.st_plain.specs.Created.{cell_made, known_made, pool_made, reply_made, table_made}
 use Rattle.st_plain.specs.Parts.{PartIs, IsAnswered, CellIsShown}
 use Rattle.st_plain.specs.Views.{CellView, TableView, pools_of}
@@ -186,4 +187,4 @@ few_cells s cs t valid part =
     omega (arith, most, cells, pools, few_started s.pools, valid.count)
 
 pub few_after : (s : EngineState) (name : Text) (paths : List Text) (reply : Reply) (cs : List CellView) (t : TableView) → IsValid s → IsAnswered s (CreatePool name paths) reply cs t → length cs ≤ 16
-few_after s name paths reply cs t valid answered = few_cells (step s (CreatePool name paths) Plain).1 cs t.state (step-IsValid s (CreatePool name paths) Plain valid) answered.part
+few_after s name paths reply cs t valid answered = few_cells (step s (CreatePool name paths) Plain).1 cs t.state (step-keeps s (CreatePool name paths) Plain valid) answered.part

@@ -16,7 +16,8 @@ use Rattle.st_model.specs.Parts.{pool_at, started, table_of, shown_table}
 use Rattle.st_model.specs.Step.{step}
 use Rattle.st_model.specs.Valid.{Apart, IsValid}
 use Rattle.st_model.specs.ValidPool.{EachPair}
-use Rattle.st_model.specs.steps.EngineStateReport.{infos_with, place_among, pool_info, report_plain, started_pools, table_info}
+use Rattle.st_model.specs.Shown.{infos_with, place_among, pool_info, started_pools, table_info}
+use Rattle.st_model.specs.steps.EngineStateReport.{report_plain}
 use Rattle.st_model.proofs.OnTable.{find-map, shown_table-is}
 use Rattle.st_plain.specs.Parts.{InfosAre, info_at}
 use Rattle.st_plain.specs.Reported.{entered}

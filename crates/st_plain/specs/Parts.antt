@@ -12,7 +12,7 @@ use Rattle.st_model.specs.declared.state.TableState.{TableState}
 use Rattle.st_model.specs.Look.{Text}
 use Rattle.st_model.specs.Parts.{pool_at, started, table_of}
 use Rattle.st_model.specs.Step.{step}
-use Rattle.st_model.specs.steps.EngineStateReport.{pool_info}
+use Rattle.st_model.specs.Shown.{pool_info}
 use Rattle.st_plain.specs.Views.{CellView, TableView, pools_of}
 
 -- The cells are the started pools of the state, in any order, and the table is its table.

@@ -15,7 +15,7 @@ pub struct PlainCell {
 
 impl Model for PlainCell {
     ghost use Rattle.std.specs.Prelude.{◌≡◌, is_some, IfSome};
-    ghost use Rattle.st_model.specs.steps.EngineStateReport.{pool_info};
+    ghost use Rattle.st_model.specs.Shown.{pool_info};
     ghost use Rattle.st_plain.specs.Views.{CellView};
 
     ghost Value = { CellView };

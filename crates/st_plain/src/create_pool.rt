@@ -14,8 +14,9 @@ ghost use Rattle.st_plain.specs.Parts.{PartIs, IsAnswered};
 ghost use Rattle.st_plain.specs.Views.{CellView, pools_of};
 
 use crate::cell::PlainCell;
+use crate::known::{create_answer, made_pool};
 use crate::table::PlainTable;
-use st_model::{Given, KnownPool, PoolState, Reply, TableState, distinct_paths};
+use st_model::{Given, KnownPool, PoolState, Reply, TableState, look};
 use st_units::{DevList, Name, NoMemory, PoolSerial, RoomyList};
 use std::alloc::Global;
 
@@ -37,7 +38,7 @@ pub fn create(
     ensures table_kept { OnErr result (table.new ≡ table.old) }
 {
     let own = own_pool(cells.items(), name);
-    match table.state().create_answer(alloc, own, name, devices)? {
+    match create_answer(alloc, table.state(), own, name, devices)? {
         Some(reply) => Ok(reply),
         None => {
             let made = make(alloc, cells, table, name, devices)?;
@@ -76,7 +77,7 @@ fn new_known(
     requires last { table.now.next ≤ 2 ^ 48 }
     ensures { IfOk result (λ known. known ≡ known_made table.now name.now devices.now) }
 {
-    let devices = distinct_paths(alloc, devices)?;
+    let devices = look::distinct(alloc, devices.items())?;
     Ok(KnownPool {
         name: name.copy()?,
         serial: PoolSerial::of(table.next),
@@ -98,8 +99,8 @@ fn new_cell(
     requires small { AreSmall (data_rows table.now.devices (distinct devices.now)) }
     ensures { IfOk result (λ cell. cell ≡ cell_made table.now name.now devices.now) }
 {
-    let paths = distinct_paths(alloc, devices)?;
-    let pool = table.new_pool(alloc, name, &paths)?;
+    let paths = look::distinct(alloc, devices.items())?;
+    let pool = made_pool(alloc, table, name, &paths)?;
     PlainCell::with_spare(alloc, pool)
 }
 
@@ -110,7 +111,7 @@ fn new_reply(alloc: Global, table: &TableState, devices: &DevList) -> Result<Rep
     requires last { table.now.next ≤ 2 ^ 48 }
     ensures { IfOk result (λ reply. reply ≡ reply_made table.now devices.now) }
 {
-    let paths = distinct_paths(alloc, devices)?;
+    let paths = look::distinct(alloc, devices.items())?;
     let serial = PoolSerial::of(table.next);
     Ok(Reply::accepted(Given::Created(true, Some((serial, paths)))))
 }

@@ -4,6 +4,7 @@
 
 mod cell;
 mod create_pool;
+mod known;
 mod state_report;
 mod table;
 

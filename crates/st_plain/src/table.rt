@@ -3,6 +3,7 @@ ghost use Rattle.st_model.specs.OnTable.{with_known};
 ghost use Rattle.st_model.specs.Parts.{table_of, shown_table};
 ghost use Rattle.st_plain.specs.Parts.{opening};
 
+use crate::known::shown;
 use st_model::{Board, KnownPool, TableInfo, TableState};
 use st_units::{DevRows, ItemList, NoMemory, Shared};
 use std::alloc::Global;
@@ -40,7 +41,7 @@ impl PlainTable {
             devices,
             next: 1,
         };
-        let info = state.shown(alloc)?;
+        let info = shown(alloc, &state)?;
         Ok(PlainTable {
             state,
             spare: Some(info),
@@ -81,7 +82,7 @@ fn shown_with(
     let last = state.names.len();
     state.names.push(known)?;
     state.next += 1;
-    match state.shown(alloc) {
+    match shown(alloc, state) {
         Ok(info) => Ok(info),
         Err(refused) => {
             let _known = state.names.remove(last);
