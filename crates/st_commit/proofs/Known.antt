@@ -1,8 +1,8 @@
 -- What the slots of the devices may read as while a record is written: it, or what was there.
-use Rattle.std.proofs.Common.{◌≡◌, ◌⊎◌, inl, inr, ℕ, ◌+◌, ◌*◌, ◌%◌, ◌^◌, ◌<◌, ◌≤◌, List, length, Some, None, refl, sym, ap, subst}
-use Rattle.st_fields.specs.Slot.{Found, slot_bytes}
+use Rattle.std.proofs.Common.{◌≡◌, ◌⊎◌, inl, inr, ℕ, ◌*◌, ◌^◌, ◌<◌, ◌≤◌, List, length, Some, None, refl, sym, subst}
+use Rattle.st_fields.specs.Slot.{slot_bytes}
 use Rattle.st_rack.specs.Story.{Content}
-use Rattle.st_rack.specs.Device.{Path, DevState, State, Image, cells}
+use Rattle.st_rack.specs.Device.{Path, DevState, State, cells}
 use Rattle.st_rack.specs.Readers.{AllMeant}
 use Rattle.st_rack.specs.Moments.{OnDevice}
 use Rattle.st_rack.specs.Steps.{Rewriting, Rewritten}

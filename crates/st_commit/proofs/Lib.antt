@@ -11,3 +11,6 @@ pub mod Repairing
 pub mod Restart
 pub mod Onward
 pub mod Alike
+pub mod Moving
+pub mod Elsewhere
+pub mod Parts

@@ -1,5 +1,5 @@
 -- Each device of a list is synced.
-use Rattle.std.proofs.Common.{◌≡◌, inl, inr, ℕ, ◌<◌, ◌≤◌, refl, sym, ap, subst, arith}
+use Rattle.std.proofs.Common.{◌≡◌, inl, inr, ℕ, refl, sym, subst, arith}
 use Rattle.st_rack.specs.Device.{Path, DevState, State, Settling, Synced}
 use Rattle.st_rack.specs.Moments.{Goes, OnDevice}
 use Rattle.st_rack.proofs.Look.{same_or_other}

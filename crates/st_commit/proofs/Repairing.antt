@@ -1,9 +1,7 @@
 -- The newest record is written to devices that lack it.
-use Rattle.std.proofs.Common.{◌≡◌, ◌≢◌, ◌⊎◌, inl, inr, ℕ, ◌*◌, ◌%◌, ◌^◌, ◌<◌, ◌≤◌, Bool, true, false, cond, nat_eq, List, length, Option, Some, None, refl, sym, ◌∙◌, ap, subst, arith}
+use Rattle.std.proofs.Common.{◌≡◌, ◌≢◌, ◌⊎◌, inl, inr, ℕ, ◌*◌, ◌%◌, ◌^◌, ◌<◌, ◌≤◌, List, length, Option, Some, refl, sym, ◌∙◌, ap, subst, arith}
 use Rattle.std.specs.List.{slice_get}
-use Rattle.std.proofs.lemmas.Bool.{cases_Bool}
-use Rattle.std.proofs.lemmas.Bool.Decides.{nat_tests}
-use Rattle.st_fields.specs.Slot.{Found, slot_bytes}
+use Rattle.st_fields.specs.Slot.{slot_bytes}
 use Rattle.st_rack.specs.Story.{Content}
 use Rattle.st_rack.specs.Device.{Path, DevState, State, cells}
 use Rattle.st_rack.specs.Moments.{OnDevice, Keeps}
@@ -12,7 +10,7 @@ use Rattle.st_rack.specs.Readers.{SureIn}
 use Rattle.st_rack.proofs.Chance.{found_in}
 use Rattle.st_rack.proofs.Look.{same_or_other}
 use Rattle.st_slots.specs.Places.{place_at, slot_at}
-use Rattle.st_slots.specs.Reading.{read_slot, read_any, of_place}
+use Rattle.st_slots.specs.Reading.{read_slot}
 use Rattle.st_slots.specs.declared.spot.Area.{Area}
 use Rattle.st_slots.proofs.Places.{slot_of_any}
 use Rattle.st_deltalog.specs.declared.area.FlexArea.{FlexArea}

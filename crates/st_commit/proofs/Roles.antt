@@ -1,9 +1,7 @@
 -- What is fairly left of a pool's devices, by the role of each.
-use Rattle.std.proofs.Common.{◌≡◌, ℕ, zero, suc, ◌<◌, Bool, true, false, List, Some, arith}
-use Rattle.std.specs.List.{slice_get}
-use Rattle.st_fields.specs.Slot.{Found}
-use Rattle.st_rack.specs.Story.{Content, NoChance}
-use Rattle.st_rack.specs.Device.{Path, DevState, State, Image, Settling}
+use Rattle.std.proofs.Common.{ℕ, zero, suc, ◌<◌, true, false, List, arith}
+use Rattle.st_rack.specs.Story.{Content}
+use Rattle.st_rack.specs.Device.{Path, DevState, State, Image}
 use Rattle.st_rack.specs.Left.{LeavesFairly, LeftOn}
 use Rattle.st_rack.proofs.Left.{left_settled}
 use Rattle.st_slots.specs.Reading.{read_slot}

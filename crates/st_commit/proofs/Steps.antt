@@ -31,7 +31,7 @@ use Rattle.st_commit.proofs.Roles.{slot_left, checkpoint_left, slots_left_on}
 use Rattle.st_commit.proofs.Over.{AtLeast, over_all, over_least, is_top, kept}
 
 -- a slot's reader looks at the slot alone
-local : (area : Area) (place : ℕ) → Local (read_slot area place) (place_at area place) (512 * area.slot)
+pub local : (area : Area) (place : ℕ) → Local (read_slot area place) (place_at area place) (512 * area.slot)
 local area place = record { same = λ f h each. ap (of_place place) ((looks_in area place).same f h each) }
 
 -- some bytes are written to one device: each slot lies off them, or they are its text

@@ -1,5 +1,5 @@
 -- One write of a record, in a commit.
-use Rattle.std.proofs.Common.{◌≡◌, ◌≢◌, ℕ, ◌+◌, ◌*◌, ◌%◌, ◌^◌, ◌<◌, ◌≤◌, Bool, true, cond, nat_eq, List, length, Option, Some, None, sym, ◌∙◌, ap, subst, arith}
+use Rattle.std.proofs.Common.{◌≡◌, ◌≢◌, ℕ, ◌+◌, ◌*◌, ◌^◌, ◌≤◌, Bool, true, cond, nat_eq, List, length, Option, Some, sym, ◌∙◌, ap, subst, arith}
 use Rattle.std.specs.List.{slice_get}
 use Rattle.std.proofs.lemmas.Bool.Decides.{nat_tests}
 use Rattle.st_fields.specs.Slot.{slot_bytes}
@@ -11,7 +11,7 @@ use Rattle.st_slots.specs.Places.{slot_at}
 use Rattle.st_slots.specs.declared.spot.Area.{Area}
 use Rattle.st_slots.proofs.Running.{same}
 use Rattle.st_deltalog.specs.declared.area.FlexArea.{FlexArea}
-use Rattle.st_deltalog.specs.Log.{Log, serial_in}
+use Rattle.st_deltalog.specs.Log.{Log}
 use Rattle.st_deltalog.specs.Bearing.{Rests}
 use Rattle.st_commit.specs.Standing.{OneOf, Only, standing_of}
 use Rattle.st_commit.specs.Ready.{IsOf, BearsRecord, Ready, IsSound, AreApart, next, Before, Spares, NoOther}

@@ -74,14 +74,23 @@ pub record Before (pool : Area) (flex : FlexArea) (p up : ℕ) (h : ℕ → List
 abbrev pub Outside : Area → ℕ → ℕ → Type 0
 Outside area g i = (i < slot_at area g) ⊎ (slot_at area g + 512 * area.slot ≤ i)
 
--- Nothing but the slots of a generation is touched: other bytes are what they were, and stay sure. Stories only grow.
-pub record Spared (pool : Area) (g : ℕ) (a s : DevState) : Type 0 where
+-- Outside some bytes a device is untouched: what it holds there stays, and what was sure stays so. Its story only grows.
+pub record Untouched (outside : ℕ → Type 0) (a s : DevState) : Type 0 where
   pub grows : Grows a.story s.story
-  pub same : (i : ℕ) → Outside pool g i → s.holds i ≡ a.holds i
-  pub sure : (i : ℕ) → Outside pool g i → pending a i ≡ false → pending s i ≡ false
+  pub same : (i : ℕ) → outside i → s.holds i ≡ a.holds i
+  pub sure : (i : ℕ) → outside i → pending a i ≡ false → pending s i ≡ false
 
+-- Nothing but the slots of a generation on the devices of the list is touched.
 abbrev pub Spares : Area → ℕ → List Path → State → State → Type 0
-Spares pool g devs a s = (d : Path) → Spared pool g (a d) (s d) × ((IsOf devs d → ⊥) → s d ≡ a d)
+Spares pool g devs a s = (d : Path) → Untouched (Outside pool g) (a d) (s d) × ((IsOf devs d → ⊥) → s d ≡ a d)
+
+-- a byte that is in neither slot of an area
+abbrev pub OutsideOf : Area → ℕ → Type 0
+OutsideOf area i = (i < 512 * area.at) ⊎ (512 * (area.at + 2 * area.slot) ≤ i)
+
+-- Nothing but a pool's slots is touched: those for records on the devices of the list, and those for checkpoints and deltas on the first.
+abbrev pub Moves : Area → FlexArea → List Path → State → State → Type 0
+Moves pool flex devs a s = (d : Path) → Untouched (λ i. OutsideOf pool i × (slice_get devs 0 ≡ Some d → OutsideOf flex.area i)) (a d) (s d) × ((IsOf devs d → ⊥) → s d ≡ a d)
 
 -- each device is what it was, or that and settled
 abbrev pub Settles : State → State → Type 0

@@ -1,8 +1,7 @@
-use Rattle.std.proofs.Common.{◌≡◌, inr, ◌*◌, ◌+◌, ◌≤◌, ◌^◌, ℕ, List, Some, arith}
+use Rattle.std.proofs.Common.{inr, ◌≤◌, ◌^◌, Some, arith}
 use Rattle.std.proofs.lemmas.Option.{slice_get_within}
 use Rattle.st_rack.specs.Device.{Path, State}
 use Rattle.st_rack.specs.Calls.{Devices}
-use Rattle.st_rack.specs.Moments.{Keeps}
 use Rattle.st_rack.proofs.Moments.{keeps_on, keeps_weak}
 use Rattle.st_slots.specs.Places.{Lies}
 use Rattle.st_slots.specs.declared.spot.Area.{Area}
