@@ -88,6 +88,6 @@ module _ {D : Type 0} (moment : D → ℕ) (state_at : D → ℕ → State) (poo
       at_each k from until c leaves =
           let s = state_at r2 k in
           let here = at_moment moment state_at (Spares pool g devs) r1 r2 (spares_self pool g devs (now r1)) spares k from until in
-          let new = newest_read pool flex p devs first (now r1) head settled g rec (all_one (held (now r1)) at_start) newest in
+          let new = newest_read pool p devs (now r1) settled g rec (all_one (held (now r1)) at_start) newest in
           let both = (repaired (history pool p devs (held (now r1))) new.0 new.1).all k from until c (slots_left_on pool flex devs s c leaves) in
           (held (now r1), at_start, stands_held pool flex p devs first g rec head apart (now r1) settled s c here leaves both.1 newest)

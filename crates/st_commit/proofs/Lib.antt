@@ -14,3 +14,4 @@ pub mod Alike
 pub mod Moving
 pub mod Elsewhere
 pub mod Parts
+pub mod Staying

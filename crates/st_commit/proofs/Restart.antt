@@ -118,34 +118,9 @@ somewhere pool p c devs x newest =
     let place = (slot_is pool r (c d) y there).1 in
     record { device = d; of = of; reads = subst (λ (k : ℕ). read_slot pool k (c d) ≡ Some y) (sym place) there })) x newest
 
-module _ (pool : Area) (flex : FlexArea) (p : ℕ) (devs : List Path) (first : Path) (s : State) (head : slice_get devs 0 ≡ Some first) (settled : (d : Path) → IsOf devs d → IsSettled (s d)) where
-  all_of_held : (P : Found → Type 0) → HeldSlots pool devs P s → AllSlots pool devs P s
+module _ (pool : Area) (p : ℕ) (devs : List Path) (s : State) (settled : (d : Path) → IsOf devs d → IsSettled (s d)) where
+  pub all_of_held : (P : Found → Type 0) → HeldSlots pool devs P s → AllSlots pool devs P s
   all_of_held P held_all d of r lt m meant = subst (λ (f : Content). P (read_slot pool r f)) (sym ((settled d of).meant m meant)) (held_all d of r lt)
-
-  -- Where the first device bears the newest record and the log of its generation, the pool is ready; for the next generation a
-  -- checkpoint has to be written.
-  pub ready_read : (g : ℕ) (rec : List ℕ) (log : Log) → AreOne pool p devs (held s) → newest_over pool p devs (held s) ≡ Some (g, rec) → read_slot pool (g % 2) (s first).holds ≡ Some (g, rec)
-      → log_at flex p g (s first).holds ≡ Some log → Ready pool flex p g (history pool p devs (held s)) devs first g (Some log) s
-  ready_read g rec log one newest bears logged =
-      let of : IsOf devs first = record { index = 0; is = head } in
-      let told = newest_told pool p (held s) devs g rec one newest in
-      let ranked : HeldSlots pool devs (Ranked p (history pool p devs (held s)) g) s =
-      (λ d of_d r lt x found. (below_newest pool p (held s) devs g rec newest d of_d r lt x found, tells pool p (held s) devs one d of_d r lt x found)) in
-      record {
-        slots = all_of_held (Ranked p (history pool p devs (held s)) g) ranked;
-        held = ranked;
-        base = (
-          record { sure = λ i low high. (settled first of).sure i; reads = bears ∙ ap (λ (b : List ℕ). Some (g, b)) (sym told.0) },
-          rests_read flex p g log (s first) (settled first of) logged,
-          ap serial_in told.0 ∙ told.1,
-        );
-      }
-
-  -- Where no slot of the serial is there, a first commit may be made.
-  pub ready_new : (h : ℕ → List ℕ) → newest_over pool p devs (held s) ≡ None → Ready pool flex p 0 h devs first 0 None s
-  ready_new h newest =
-      let ranked : HeldSlots pool devs (Ranked p h 0) s = (λ d of r lt x found. absurd (none_of pool p (held s) devs newest d of r lt x found)) in
-      record { slots = all_of_held (Ranked p h 0) ranked; held = ranked; base = refl }
 
   -- the newest record stands in a slot of a device
   pub newest_read : (g : ℕ) (rec : List ℕ) → AreOne pool p devs (held s) → newest_over pool p devs (held s) ≡ Some (g, rec) → (bearer : Path) × Newest pool p (history pool p devs (held s)) devs bearer g rec s
@@ -164,3 +139,29 @@ module _ (pool : Area) (flex : FlexArea) (p : ℕ) (devs : List Path) (first : P
           bears = record { sure = λ i low high. (settled there.device there.of).sure i; reads = there.reads };
         },
       )
+
+module _ (pool : Area) (flex : FlexArea) (p : ℕ) (devs : List Path) (first : Path) (s : State) (settled : (d : Path) → IsOf devs d → IsSettled (s d)) where
+  -- Where no slot of the serial is there, a first commit may be made.
+  pub ready_new : (h : ℕ → List ℕ) → newest_over pool p devs (held s) ≡ None → Ready pool flex p 0 h devs first 0 None s
+  ready_new h newest =
+      let ranked : HeldSlots pool devs (Ranked p h 0) s = (λ d of r lt x found. absurd (none_of pool p (held s) devs newest d of r lt x found)) in
+      record { slots = all_of_held pool p devs s settled (Ranked p h 0) ranked; held = ranked; base = refl }
+
+  -- Where the first device bears the newest record and the log of its generation, the pool is ready; for the next generation a
+  -- checkpoint has to be written.
+  pub ready_read : slice_get devs 0 ≡ Some first → (g : ℕ) (rec : List ℕ) (log : Log) → AreOne pool p devs (held s) → newest_over pool p devs (held s) ≡ Some (g, rec) → read_slot pool (g % 2) (s first).holds ≡ Some (g, rec)
+      → log_at flex p g (s first).holds ≡ Some log → Ready pool flex p g (history pool p devs (held s)) devs first g (Some log) s
+  ready_read head g rec log one newest bears logged =
+      let of : IsOf devs first = record { index = 0; is = head } in
+      let told = newest_told pool p (held s) devs g rec one newest in
+      let ranked : HeldSlots pool devs (Ranked p (history pool p devs (held s)) g) s =
+      (λ d of_d r lt x found. (below_newest pool p (held s) devs g rec newest d of_d r lt x found, tells pool p (held s) devs one d of_d r lt x found)) in
+      record {
+        slots = all_of_held pool p devs s settled (Ranked p (history pool p devs (held s)) g) ranked;
+        held = ranked;
+        base = (
+          record { sure = λ i low high. (settled first of).sure i; reads = bears ∙ ap (λ (b : List ℕ). Some (g, b)) (sym told.0) },
+          rests_read flex p g log (s first) (settled first of) logged,
+          ap serial_in told.0 ∙ told.1,
+        );
+      }
