@@ -1,102 +1,160 @@
--- what the form of a line can give
-use Rattle.std.proofs.Common.{◌≡◌, ℕ, ◌<◌, List, Bool, true, false, nat_lt, cond, Option, Some, None, Result, Ok, Err, refl, ap, subst, sym, ◌∙◌, arith}
+-- what the form of a line can give: a lane below the lanes, and a call that can be made
+use Rattle.std.proofs.Common.{◌≡◌, ℕ, ◌<◌, ◌%◌, ◌==◌, List, length, Bool, true, false, nat_lt, cond, Option, Some, None, Result, Ok, Err, refl, subst, codes, arith}
 use Rattle.std.proofs.lemmas.Grind.{common_steps}
+use Rattle.std.specs.Prelude.{IfOk}
 use Rattle.serde_json.specs.Data.{Data}
+use Rattle.serde_json.specs.Find.{get, as_str}
+use Rattle.hex.specs.Hex.{decode_of}
+use Rattle.hex.specs.declared.error.FromHexError.{FromHexError}
 use Rattle.st_units.specs.declared.cause.Member.TheVariants as members
+use Rattle.st_limits.specs.declared.TheConstants.{SECTOR_BYTES}
+use Rattle.st_model.specs.Sound.{IsSound, is_whole, are_few}
 use Rattle.st_model.specs.declared.call.Call.{Call}
-use Rattle.st_model.specs.Step.{is_built}
+use Rattle.st_model.specs.declared.call.Payload.{Payload}
+use Rattle.st_model.specs.declared.call.Payload.TheVariants.{Given}
 use Rattle.st_calls.specs.declared.call_name.CallName.{CallName}
-use Rattle.st_calls.specs.declared.call_name.CallName.TheVariants.{CreatePool, DestroyPool, StopPool, StartPool, RenamePool, AddDataDevs, InitCache, AddCacheDevs, CreateFilesystems, DestroyFilesystems, SnapshotFilesystem, RenameFilesystem, SetSizeLimit, SetFsLimit, SetOverprovisioning, FsWrite, FsRead, Check, PoolReport, EngineStateReport}
+use Rattle.st_calls.specs.declared.call_name.CallName.TheVariants.{CreatePool, DestroyPool, StopPool, StartPool, RenamePool, CreateFilesystems, DestroyFilesystems, SnapshotFilesystem, RenameFilesystem, SetSizeLimit, SetFsLimit, SetOverprovisioning, SetMerge, FsWrite, FsRead, PoolReports, EngineStateReport}
+use Rattle.st_calls.specs.declared.call_name.CallName.TheVariants as names
 use Rattle.st_calls.specs.declared.fault.LineFault.{LineFault}
 use Rattle.st_calls.specs.declared.fault.LineFault.TheVariants.{BadCall}
-use Rattle.st_calls.specs.Gives.{◌>>=◌}
-use Rattle.st_calls.specs.Form.{number_of, lane_below, lane_from, lane_of, name_at, paths_at, create_pool, call_of, in_lane, exact_form, line_form, for_now, form, object_of, call_name}
-use Rattle.serde_json.specs.Find.{get}
-use Rattle.std.specs.Prelude.{codes}
+use Rattle.st_calls.specs.Gives.{◌>>=◌, Gives}
+use Rattle.st_calls.specs.Members.{number_of, or_bad, name_at, names_at, paths_at, number_at, optional_number_at, flag_at}
+use Rattle.st_calls.specs.Form.{lane_below, lane_from, lane_of, call_of, in_lane, object_form, form, IsCall, object_of, call_name}
+use Rattle.st_calls.specs.PoolForms.{pool_at, own_name_at, id_type, id_of, create_pool, destroy_pool, stop_pool, start_pool, rename_pool, devices_call, pool_call, pools_at, pool_reports}
+use Rattle.st_calls.specs.FsForms.{fs_specs_at, create_filesystems, destroy_filesystems, snapshot_filesystem, rename_filesystem, set_size_limit, set_fs_limit, set_overprovisioning, set_merge}
+use Rattle.st_calls.specs.IoForms.{as_byte, decoded, hex_payload, fill_payload, payload_by, payload_of, fs_write, fs_read}
+
+-- what reading gives, if anything
+pub record Every {A : Type 0} (P : A → Type 0) (r : Result A LineFault) : Type 0 where
+  pub holds : IfOk r P
 
 module _ {A B : Type 0} where
-  -- what follows was reached
-  then_ok : (r : Result A LineFault) (f : A → Result B LineFault) (b : B) → (r >>= f) ≡ Ok b → (a : A) × (r ≡ Ok a) × (f a ≡ Ok b)
-  then_ok (Ok a) f b h = (a, refl, h)
-  then_ok (Err e) f b h = absurd cc
+  -- what follows, whatever was read before
+  always-ok : (P : B → Type 0) (r : Result A LineFault) (f : A → Result B LineFault) → ((a : A) → Every P (f a)) → IfOk (r >>= f) P
+  always-ok P (Ok a) f h = (h a).holds
+  always-ok P (Err e) f h = tt
 
-now_ok : {A : Type 0} (r : Result A LineFault) (a : A) → for_now r ≡ Ok a → r ≡ Ok a
-now_ok (Ok x) a h = h
-now_ok (Err e) a h = absurd cc
+  always : {P : B → Type 0} (r : Result A LineFault) (f : A → Result B LineFault) → ((a : A) → Every P (f a)) → Every P (r >>= f)
+  always {P} r f h = record { holds = always-ok P r f h }
 
-abbrev pub ok_or : {A : Type 0} → A → Result A LineFault → A
-ok_or d (Ok x) = x
-ok_or d (Err e) = d
+  -- what follows, by what was read before
+  after-ok : (Q : A → Type 0) (P : B → Type 0) (r : Result A LineFault) (f : A → Result B LineFault) → IfOk r Q → ((a : A) → Q a → Every P (f a)) → IfOk (r >>= f) P
+  after-ok Q P (Ok a) f q h = (h a q).holds
+  after-ok Q P (Err e) f q h = tt
 
-in_lane_ok : (lane : ℕ) (r : Result Call LineFault) (x : ℕ × Call) → in_lane lane r ≡ Ok x → (x.0 ≡ lane) × (r ≡ Ok x.1)
-in_lane_ok lane (Ok call) x h =
-    let same : (lane, call) ≡ x = ap (ok_or x) h in
-    (sym (ap (λ (p : ℕ × Call). p.0) same), ap (λ (p : ℕ × Call). Ok p.1) same)
-in_lane_ok lane (Err e) x h = absurd cc
+  after : {Q : A → Type 0} {P : B → Type 0} (r : Result A LineFault) (f : A → Result B LineFault) → Every Q r → ((a : A) → Q a → Every P (f a)) → Every P (r >>= f)
+  after {Q} {P} r f q h = record { holds = after-ok Q P r f q.holds h }
 
-below_if : (b : Bool) (lanes lane l : ℕ) → nat_lt l lanes ≡ b → cond b (Ok l) (Err (BadCall members.Lane)) ≡ Ok lane → lane < lanes
-below_if true lanes lane l e h = let same : l ≡ lane = ap (ok_or 0) h in subst (λ (n : ℕ). n < lanes) same (grind (arith, common_steps))
-below_if false lanes lane l e h = absurd cc
+given : {A : Type 0} {P : A → Type 0} {x : A} → P x → Every P (Ok x)
+given p = record { holds = p }
 
-lane_below-ok : (lanes lane : ℕ) (o : Option ℕ) → lane_below lanes o ≡ Ok lane → lane < lanes
-lane_below-ok lanes lane None h = absurd cc
-lane_below-ok lanes lane (Some l) h = below_if (nat_lt l lanes) lanes lane l refl h
+none : {A : Type 0} {P : A → Type 0} {e : LineFault} → Every P (Err e)
+none = record { holds = tt }
 
-lane_from-ok : (lanes lane : ℕ) (o : Option Data) → 0 < lanes → lane_from lanes o ≡ Ok lane → lane < lanes
-lane_from-ok lanes lane None some h = let same : 0 ≡ lane = ap (ok_or 0) h in subst (λ (n : ℕ). n < lanes) same some
-lane_from-ok lanes lane (Some d) some h = lane_below-ok lanes lane (number_of d) h
+-- where a test stands, what passes it is right
+tested-ok : {A : Type 0} (P : A → Type 0) (b t : Bool) (x : A) (e : LineFault) → t ≡ b → (t ≡ true → P x) → IfOk (cond b (Ok x) (Err e)) P
+tested-ok P true t x e is h = h is
+tested-ok P false t x e is h = tt
 
-lane_of-ok : (lanes lane : ℕ) (d : Data) → 0 < lanes → lane_of lanes d ≡ Ok lane → lane < lanes
+tested : {A : Type 0} {P : A → Type 0} (t : Bool) (x : A) (e : LineFault) → (t ≡ true → P x) → Every P (cond t (Ok x) (Err e))
+tested {A} {P} t x e h = record { holds = tested-ok P t t x e refl h }
+
+IsWhole : Payload → Type 0
+IsWhole payload = is_whole payload ≡ true
+
+AreFew : List (List ℕ) → Type 0
+AreFew pools = are_few pools ≡ true
+
+few-pools : (d : Data) → Every AreFew (pools_at d)
+unfolding pools_at AreFew
+few-pools d = always (names_at members.Pools (codes "pools") d) _ (λ pools. tested (are_few pools) pools (BadCall members.Pools) (λ few. few))
+
+sound-reports : (d : Data) → Every IsSound (pool_reports d)
+unfolding pool_reports AreFew
+sound-reports d = after (pools_at d) _ (few-pools d) (λ pools few. given few)
+
+whole-decoded : (r : Result (List ℕ) FromHexError) → Every IsWhole (decoded r)
+unfolding IsWhole
+whole-decoded (Ok bytes) = tested (length bytes % SECTOR_BYTES == 0) (Given bytes) (BadCall members.Hex) (λ whole. whole)
+whole-decoded (Err e) = none
+
+whole-hex : (d : Data) → Every IsWhole (hex_payload d)
+unfolding hex_payload
+whole-hex d = always (or_bad members.Hex (as_str d)) _ (λ text. whole-decoded (decode_of text))
+
+whole-fill : (d : Data) → Every IsWhole (fill_payload d)
+unfolding fill_payload IsWhole
+whole-fill d = always (number_at members.Fill (codes "fill") d >>= as_byte) _ (λ byte. always (number_at members.Sectors (codes "sectors") d) _ (λ sectors. given refl))
+
+whole-by : (hex : Option Data) (d : Data) → Every IsWhole (payload_by hex d)
+whole-by (Some hex) d = whole-hex hex
+whole-by None d = whole-fill d
+
+whole-payload : (d : Data) → Every IsWhole (payload_of d)
+unfolding payload_of
+whole-payload d = whole-by (get (codes "hex") d) d
+
+sound-write : (d : Data) → Every IsSound (fs_write d)
+unfolding fs_write IsWhole
+sound-write d =
+    always (pool_at d) _ (λ pool. always (own_name_at d) _ (λ name. always (number_at members.Sector (codes "sector") d) _ (λ sector.
+    after (payload_of d) _ (whole-payload d) (λ payload whole. given whole))))
+
+sound-call : (name : CallName) (d : Data) → Every IsSound (call_of name d)
+unfolding create_pool destroy_pool stop_pool start_pool rename_pool devices_call pool_call create_filesystems destroy_filesystems snapshot_filesystem rename_filesystem set_size_limit set_fs_limit set_overprovisioning set_merge fs_read
+sound-call CreatePool d = always (own_name_at d) _ (λ name. always (paths_at (codes "devices") d) _ (λ devices. given refl))
+sound-call DestroyPool d = always (own_name_at d) _ (λ name. given refl)
+sound-call StopPool d = always (own_name_at d) _ (λ name. given refl)
+sound-call StartPool d = always (id_type d) _ (λ is_uuid. always (id_of is_uuid d) _ (λ id. given refl))
+sound-call RenamePool d = always (own_name_at d) _ (λ name. always (name_at members.New (codes "new") d) _ (λ new. given refl))
+sound-call names.AddDataDevs d = always (pool_at d) _ (λ pool. always (paths_at (codes "devices") d) _ (λ devices. given refl))
+sound-call names.InitCache d = always (pool_at d) _ (λ pool. always (paths_at (codes "devices") d) _ (λ devices. given refl))
+sound-call names.AddCacheDevs d = always (pool_at d) _ (λ pool. always (paths_at (codes "devices") d) _ (λ devices. given refl))
+sound-call CreateFilesystems d = always (pool_at d) _ (λ pool. always (fs_specs_at d) _ (λ filesystems. given refl))
+sound-call DestroyFilesystems d = always (pool_at d) _ (λ pool. always (names_at members.Names (codes "names") d) _ (λ all. given refl))
+sound-call SnapshotFilesystem d = always (pool_at d) _ (λ pool. always (name_at members.Origin (codes "origin") d) _ (λ origin. always (own_name_at d) _ (λ name. given refl)))
+sound-call RenameFilesystem d = always (pool_at d) _ (λ pool. always (own_name_at d) _ (λ name. always (name_at members.New (codes "new") d) _ (λ new. given refl)))
+sound-call SetSizeLimit d = always (pool_at d) _ (λ pool. always (own_name_at d) _ (λ name. always (optional_number_at members.Limit (codes "limit") d) _ (λ limit. given refl)))
+sound-call SetFsLimit d = always (pool_at d) _ (λ pool. always (number_at members.Limit (codes "limit") d) _ (λ limit. given refl))
+sound-call SetOverprovisioning d = always (pool_at d) _ (λ pool. always (flag_at members.Value (codes "value") d) _ (λ value. given refl))
+sound-call SetMerge d = always (pool_at d) _ (λ pool. always (own_name_at d) _ (λ name. always (flag_at members.Value (codes "value") d) _ (λ value. given refl)))
+sound-call FsWrite d = sound-write d
+sound-call FsRead d = always (pool_at d) _ (λ pool. always (own_name_at d) _ (λ name. always (number_at members.Sector (codes "sector") d) _ (λ sector. always (number_at members.Sectors (codes "sectors") d) _ (λ sectors. given refl))))
+sound-call names.Check d = always (pool_at d) _ (λ pool. given refl)
+sound-call names.PoolReport d = always (pool_at d) _ (λ pool. given refl)
+sound-call PoolReports d = sound-reports d
+sound-call EngineStateReport d = given refl
+
+lane-below : (lanes : ℕ) (o : Option ℕ) → Every (λ lane. 0 < lanes → lane < lanes) (lane_below lanes o)
+lane-below lanes None = none
+lane-below lanes (Some lane) = tested (nat_lt lane lanes) lane (BadCall members.Lane) (λ below some. grind (arith, common_steps))
+
+lane-from : (lanes : ℕ) (o : Option Data) → Every (λ lane. 0 < lanes → lane < lanes) (lane_from lanes o)
+lane-from lanes None = given (λ some. some)
+lane-from lanes (Some d) = lane-below lanes (number_of d)
+
+lane-of : (lanes : ℕ) (d : Data) → Every (λ lane. 0 < lanes → lane < lanes) (lane_of lanes d)
 unfolding lane_of
-lane_of-ok lanes lane d some h = lane_from-ok lanes lane (get (codes "lane") d) some h
+lane-of lanes d = lane-from lanes (get (codes "lane") d)
 
-create-built : (d : Data) (call : Call) → create_pool d ≡ Ok call → is_built call ≡ true
-unfolding create_pool
-create-built d call h =
-    let named = then_ok (name_at members.Name (codes "name") d) _ call h in
-    let placed = then_ok (paths_at (codes "devices") d) _ call named.2 in
-    ap is_built (ap (ok_or call) (sym placed.2))
+call-in_lane : (lanes lane : ℕ) (r : Result Call LineFault) → (0 < lanes → lane < lanes) → Every IsSound r → Every (IsCall lanes) (in_lane lane r)
+call-in_lane lanes lane (Ok call) below sound = given (record { below = below; sound = sound.holds })
+call-in_lane lanes lane (Err e) below sound = none
 
-call_of-built : (name : CallName) (d : Data) (call : Call) → call_of name d ≡ Ok call → is_built call ≡ true
-call_of-built CreatePool d call h = create-built d call h
-call_of-built EngineStateReport d call h = ap is_built (ap (ok_or call) (sym h))
-call_of-built DestroyPool d call h = absurd cc
-call_of-built StopPool d call h = absurd cc
-call_of-built StartPool d call h = absurd cc
-call_of-built RenamePool d call h = absurd cc
-call_of-built AddDataDevs d call h = absurd cc
-call_of-built InitCache d call h = absurd cc
-call_of-built AddCacheDevs d call h = absurd cc
-call_of-built CreateFilesystems d call h = absurd cc
-call_of-built DestroyFilesystems d call h = absurd cc
-call_of-built SnapshotFilesystem d call h = absurd cc
-call_of-built RenameFilesystem d call h = absurd cc
-call_of-built SetSizeLimit d call h = absurd cc
-call_of-built SetFsLimit d call h = absurd cc
-call_of-built SetOverprovisioning d call h = absurd cc
-call_of-built FsWrite d call h = absurd cc
-call_of-built FsRead d call h = absurd cc
-call_of-built Check d call h = absurd cc
-call_of-built PoolReport d call h = absurd cc
+call-object : (lanes : ℕ) (d : Data) → Every (IsCall lanes) (object_form lanes d)
+unfolding object_form
+call-object lanes d =
+    after (lane_of lanes d) _ (lane-of lanes d) (λ lane below. always (call_name d) _ (λ name. call-in_lane lanes lane (call_of name d) below (sound-call name d)))
 
--- a line that is a call names a lane below the lanes, and a call that is built
-pub record IsCall (lanes lane : ℕ) (call : Call) : Type 0 where
-  pub below : lane < lanes
-  pub built : is_built call ≡ true
+pub call-form : (lanes : ℕ) (line : List ℕ) → Every (IsCall lanes) (form lanes line)
+unfolding form
+call-form lanes line = always (object_of line) _ (λ d. call-object lanes d)
 
-exact-IsCall : (lanes lane : ℕ) (call : Call) (d : Data) → 0 < lanes → exact_form lanes d ≡ Ok (lane, call) → IsCall lanes lane call
-unfolding exact_form
-exact-IsCall lanes lane call d some h =
-    let laned = then_ok (lane_of lanes d) _ (lane, call) h in
-    let named = then_ok (call_name d) _ (lane, call) laned.2 in
-    let both = in_lane_ok laned.0 (call_of named.0 d) (lane, call) named.2 in
-    record {
-      below = subst (λ (n : ℕ). n < lanes) (sym both.0) (lane_of-ok lanes laned.0 d some laned.1);
-      built = call_of-built named.0 d call both.1;
-    }
+-- the same of what a line was read as
+pub form-IsCall : (lanes : ℕ) (read : ℕ × Call) (line : List ℕ) → form lanes line ≡ Ok read → IsCall lanes read
+form-IsCall lanes read line is = subst (λ (r : Result (ℕ × Call) LineFault). IfOk r (IsCall lanes)) is (call-form lanes line).holds
 
-pub form-IsCall : (lanes lane : ℕ) (call : Call) (line : List ℕ) → 0 < lanes → form lanes line ≡ Ok (lane, call) → IsCall lanes lane call
-unfolding form line_form
-form-IsCall lanes lane call line some h =
-    let read = then_ok (object_of line) (exact_form lanes) (lane, call) (now_ok (line_form lanes line) (lane, call) h) in
-    exact-IsCall lanes lane call read.0 some read.2
+-- and of what the reader gave
+pub read-IsCall : (lanes : ℕ) (line : List ℕ) (result : Result (ℕ × Call) LineFault) → Gives (λ (read : ℕ × Call). read) result (form lanes line) → IfOk result (IsCall lanes)
+read-IsCall lanes line (Ok read) is = form-IsCall lanes read line is
+read-IsCall lanes line (Err e) is = tt

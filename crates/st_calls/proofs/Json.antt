@@ -5,7 +5,8 @@ use Rattle.std.proofs.lemmas.Str.{IsUtf8-from_is_utf8, is_utf8-from_IsUtf8}
 use Rattle.serde_json.specs.Read.{read}
 use Rattle.st_units.specs.declared.cause.Member.TheVariants.{Line}
 use Rattle.st_calls.specs.declared.fault.LineFault.TheVariants.{BadCall}
-use Rattle.st_calls.specs.Form.{json_of, or_bad}
+use Rattle.st_calls.specs.Form.{json_of}
+use Rattle.st_calls.specs.Members.{or_bad}
 
 pub json_of-text : (bytes : List ℕ) → IsUtf8 bytes → json_of bytes ≡ or_bad Line (read bytes)
 unfolding json_of

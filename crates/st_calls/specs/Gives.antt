@@ -1,7 +1,7 @@
 -- reading that may fail, and what a reader returned
 use Rattle.std.specs.Prelude.{◌≡◌, Result, Ok, Err}
 use Rattle.st_calls.specs.declared.fault.LineFault.{LineFault}
-use Rattle.st_calls.specs.declared.fault.LineFault.TheVariants.{BadCall, BadName, NotBuilt, OutOfMemory}
+use Rattle.st_calls.specs.declared.fault.LineFault.TheVariants.{BadCall, BadName, OutOfMemory}
 
 infixl 10 ◌>>=◌
 abbrev pub ◌>>=◌ : {A B : Type 0} → Result A LineFault → (A → Result B LineFault) → Result B LineFault
@@ -11,7 +11,6 @@ abbrev pub ◌>>=◌ : {A B : Type 0} → Result A LineFault → (A → Result B
 abbrev pub FailsBy : {B : Type 0} → LineFault → Result B LineFault → Type 0
 FailsBy (BadCall m) read = read ≡ Err (BadCall m)
 FailsBy (BadName m) read = read ≡ Err (BadName m)
-FailsBy (NotBuilt n) read = read ≡ Err (NotBuilt n)
 FailsBy OutOfMemory read = Unit {0}
 
 -- what a reader returned, seen by view, is what reading gives, unless memory ran out

@@ -1,3 +1,7 @@
 pub mod Form
+pub mod FsForms
 pub mod Gives
+pub mod IoForms
+pub mod Members
 pub mod Names
+pub mod PoolForms

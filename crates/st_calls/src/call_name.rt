@@ -19,10 +19,12 @@ pub enum CallName {
     SetSizeLimit,
     SetFsLimit,
     SetOverprovisioning,
+    SetMerge,
     FsWrite,
     FsRead,
     Check,
     PoolReport,
+    PoolReports,
     EngineStateReport,
 }
 
@@ -47,10 +49,12 @@ impl CallName {
             CallName::SetSizeLimit => "SetSizeLimit",
             CallName::SetFsLimit => "SetFsLimit",
             CallName::SetOverprovisioning => "SetOverprovisioning",
+            CallName::SetMerge => "SetMerge",
             CallName::FsWrite => "FsWrite",
             CallName::FsRead => "FsRead",
             CallName::Check => "Check",
             CallName::PoolReport => "PoolReport",
+            CallName::PoolReports => "PoolReports",
             CallName::EngineStateReport => "EngineStateReport",
         }
     }
@@ -75,10 +79,12 @@ impl CallName {
             CallName::SetSizeLimit,
             CallName::SetFsLimit,
             CallName::SetOverprovisioning,
+            CallName::SetMerge,
             CallName::FsWrite,
             CallName::FsRead,
             CallName::Check,
             CallName::PoolReport,
+            CallName::PoolReports,
             CallName::EngineStateReport,
         ];
         named(&names, text).copied()

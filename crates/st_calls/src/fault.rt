@@ -1,4 +1,3 @@
-use crate::call_name::CallName;
 use st_units::{Member, NoMemory};
 
 /// Why a line gave no call to run.
@@ -8,8 +7,6 @@ pub enum LineFault {
     BadCall(Member),
     /// A name outside the limits.
     BadName(Member),
-    /// The line is that call, which isn't built yet.
-    NotBuilt(CallName),
     OutOfMemory,
 }
 
