@@ -1,4 +1,5 @@
 // The records that a commit writes, both ways: the largest, the least, and malformed neighbours.
+mod deltas;
 mod flex;
 mod pool;
 

@@ -1,6 +1,6 @@
 // The flex record.
 use super::{Change, changed, put_last};
-use st_flexrec::{CellRow, FlexRec, MapRow, RecFault, decode, encode, keeps_conditions};
+use st_flexrec::{CellRow, FlexRec, MapRow, RecFault, decode, encode, encode_v1, keeps_conditions};
 use st_units::{Bytes, FsRow, ItemList, Name};
 use std::alloc::Global;
 use std::process::Abort;
@@ -17,7 +17,7 @@ fn flex_fault(alloc: Global, bytes: &[u8], generation: u64) -> Option<RecFault> 
     decode(alloc, bytes, generation).err()
 }
 
-fn fs_row(
+pub fn fs_row(
     alloc: Global,
     serial: u64,
     origin: Option<u64>,
@@ -36,7 +36,7 @@ fn fs_row(
 }
 
 /// Three filesystems, the third of the greatest size; four mappings; three cells, of which two mappings share the first.
-fn small_flex(alloc: Global) -> Result<FlexRec, Fail> {
+pub fn small_flex(alloc: Global) -> Result<FlexRec, Fail> {
     let mut filesystems = ItemList::make(alloc);
     put_last(&mut filesystems, fs_row(alloc, 1, None, 256, None, b"a")?)?;
     put_last(
@@ -66,7 +66,7 @@ fn small_flex(alloc: Global) -> Result<FlexRec, Fail> {
     })
 }
 
-const FLEX_CHANGES: [Change; 49] = [
+const FLEX_CHANGES: [Change; 52] = [
     ("another serial", 0, 8, 9, true),
     ("the next serial is a filesystem's", 8, 8, 3, false),
     ("the greatest next serial", 8, 8, 256, true),
@@ -75,7 +75,10 @@ const FLEX_CHANGES: [Change; 49] = [
     ("the next cell of a later generation", 16, 8, 5, false),
     ("a filesystem less", 24, 2, 2, false),
     ("129 filesystems", 24, 2, 129, false),
-    ("something behind the count", 26, 2, 1, false),
+    ("version 2", 26, 2, 2, true),
+    ("another version", 26, 2, 1, false),
+    ("a version above 2", 26, 2, 4, false),
+    ("a mark in version 1", 294, 1, 1, false),
     ("a mapping more", 28, 4, 5, false),
     (
         "a mapping more and a cell less",
@@ -173,29 +176,93 @@ fn neighbours_of_a_flex_record_are_told_from_records(rt: HostRuntime) -> Result<
         );
     }
     flex_neighbours(&rt, alloc, bytes.items(), &FLEX_CHANGES)?;
-    for end in 0..bytes.len() {
-        let fault = flex_fault(alloc, &bytes.items()[..end], 2);
-        assert_eq!(rt; fault, Some(RecFault::NotARecord), "the first {end} bytes");
-    }
     Ok(())
 }
 
-/// 128 filesystems of 256 blocks, all of them mapped, each to a cell of its own.
-fn largest_flex(alloc: Global) -> Result<FlexRec, Fail> {
+/// The small record in version 2, with a mark on the second filesystem. The third is a snapshot of the one with this serial.
+fn marked_flex(alloc: Global, origin: u64) -> Result<FlexRec, Fail> {
+    let mut rec = small_flex(alloc)?;
+    rec.version2 = true;
+    rec.filesystems.at_mut(1).merge = true;
+    rec.filesystems.at_mut(2).origin = Some(origin);
+    Ok(rec)
+}
+
+const MARK_CHANGES: [Change; 7] = [
+    ("no mark", 294, 1, 0, true),
+    ("a mark of 2", 294, 1, 2, false),
+    ("something behind the mark", 295, 1, 1, false),
+    ("a mark without an origin", 134, 1, 1, false),
+    ("a second mark", 454, 1, 1, false),
+    ("marks in version 1", 26, 2, 0, false),
+    ("the greatest next serial of version 2", 8, 8, 512, true),
+];
+
+/// Whether the record keeps its conditions with a mark on its third filesystem, and none on the second.
+fn third_may_merge(alloc: Global, origin: u64) -> Result<bool, Fail> {
+    let mut rec = marked_flex(alloc, origin)?;
+    rec.filesystems.at_mut(1).merge = false;
+    rec.filesystems.at_mut(2).merge = true;
+    Ok(keeps_conditions(alloc, &rec)?)
+}
+
+#[test]
+fn marks_stand_by_their_rule_alone(rt: HostRuntime) -> Result<(), Fail> {
+    let alloc = rt.alloc();
+    // a second mark merges into a marked filesystem, or into the one that another merges into
+    for origin in [2, 1] {
+        let bytes = flex_bytes(alloc, &marked_flex(alloc, origin)?)?;
+        assert_eq!(rt; bytes.items()[294], 1);
+        flex_neighbours(&rt, alloc, bytes.items(), &MARK_CHANGES)?;
+        assert!(rt; third_may_merge(alloc, origin)?);
+    }
+    let bytes = flex_bytes(alloc, &marked_flex(alloc, 1)?)?;
+    match decode(alloc, bytes.items(), 2) {
+        Err(_) => return Err("no record".into()),
+        Ok(rec) => {
+            assert!(rt; rec.version2);
+            assert!(rt;
+                !rec.filesystems.at(0).merge
+                    && rec.filesystems.at(1).merge
+                    && !rec.filesystems.at(2).merge
+            );
+        }
+    }
+    let beyond = changed(alloc, bytes.items(), 8, 8, 513)?;
+    assert_eq!(rt; flex_fault(alloc, &beyond, 2), Some(RecFault::NotARecord));
+    Ok(())
+}
+
+#[test]
+fn version_1_is_written_as_it_was(rt: HostRuntime) -> Result<(), Fail> {
+    let alloc = rt.alloc();
+    let rec = small_flex(alloc)?;
+    if rec.version2 || !keeps_conditions(alloc, &rec)? {
+        return Err("no record of version 1".into());
+    }
+    let old = encode_v1(alloc, &rec)?;
+    assert_eq!(rt; &old.items()[24..28], [0, 3, 0, 0].as_slice());
+    assert_eq!(rt; flex_fault(alloc, old.items(), 2), None);
+    Ok(())
+}
+
+/// So many filesystems, each with so many blocks, all of them mapped, each to a cell of its own.
+fn full_flex(alloc: Global, version2: bool, count: u16, blocks: u32) -> Result<FlexRec, Fail> {
     let mut filesystems = ItemList::make(alloc);
     let mut mappings = ItemList::make(alloc);
     let mut cells = ItemList::make(alloc);
-    for fs in 0..128u16 {
+    for fs in 0..count {
         let mut name = [b'f'; 64];
-        name[0] = b'a' + (fs % 16) as u8;
-        name[1] = b'a' + (fs / 16) as u8;
+        name[0] = b'a' + (fs % 20) as u8;
+        name[1] = b'a' + (fs / 20) as u8;
         let serial = u64::from(fs) + 1;
+        let size = u64::from(blocks) * 128;
         put_last(
             &mut filesystems,
-            fs_row(alloc, serial, None, 32_768, None, &name)?,
+            fs_row(alloc, serial, None, size, None, &name)?,
         )?;
-        for block in 0..256u32 {
-            let cell = u32::from(fs) * 256 + block;
+        for block in 0..blocks {
+            let cell = u32::from(fs) * blocks + block;
             put_last(&mut mappings, MapRow { fs, block, cell })?;
             put_last(
                 &mut cells,
@@ -207,10 +274,10 @@ fn largest_flex(alloc: Global) -> Result<FlexRec, Fail> {
         }
     }
     Ok(FlexRec {
-        version2: false,
+        version2,
         serial: 1 << 48,
-        next_fs: 129,
-        next_cell: 32_769,
+        next_fs: u64::from(count) + 1,
+        next_cell: u64::from(count) * u64::from(blocks) + 1,
         filesystems,
         mappings,
         cells,
@@ -218,12 +285,24 @@ fn largest_flex(alloc: Global) -> Result<FlexRec, Fail> {
 }
 
 #[test]
-fn the_largest_flex_record_is_read_from_its_generation_on(rt: HostRuntime) -> Result<(), Fail> {
+fn the_largest_flex_records_are_read_from_their_generation_on(rt: HostRuntime) -> Result<(), Fail> {
     let alloc = rt.alloc();
-    let mut bytes = flex_bytes(alloc, &largest_flex(alloc)?)?
-        .items()
-        .to_vec(alloc)?;
-    assert_eq!(rt; bytes.len(), 807_012 - 64);
+    for (version2, count, blocks, len) in [(false, 128, 256, 807_012), (true, 256, 128, 827_492)] {
+        let bytes = flex_bytes(alloc, &full_flex(alloc, version2, count, blocks)?)?
+            .items()
+            .to_vec(alloc)?;
+        assert_eq!(rt; bytes.len(), len - 64);
+        flex_ends(&rt, alloc, bytes)?;
+    }
+    for (version2, count) in [(false, 129), (true, 257)] {
+        let many = full_flex(alloc, version2, count, 1)?;
+        assert!(rt; !keeps_conditions(alloc, &many)?, "{count} filesystems");
+    }
+    Ok(())
+}
+
+/// Asserts that a full record is read from generation 16,385 on, and neither with a byte more nor with a byte less.
+fn flex_ends(rt: &impl Abort, alloc: Global, mut bytes: Vec<u8>) -> Result<(), Fail> {
     for (generation, good) in [(16_384, false), (16_385, true)] {
         let want = if good {
             None
@@ -236,13 +315,14 @@ fn the_largest_flex_record_is_read_from_its_generation_on(rt: HostRuntime) -> Re
             "at {generation}"
         );
     }
+    let len = bytes.len();
     bytes.push(0)?;
     assert_eq!(rt;
         flex_fault(alloc, &bytes, 16_385),
         Some(RecFault::NotARecord),
         "a byte more"
     );
-    bytes.truncate(807_011 - 64);
+    bytes.truncate(len - 1);
     assert_eq!(rt;
         flex_fault(alloc, &bytes, 16_385),
         Some(RecFault::NotARecord),

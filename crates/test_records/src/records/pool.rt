@@ -1,6 +1,6 @@
 // The record of a pool.
 use super::{Change, changed, put_last};
-use st_poolrec::{PoolRec, RecFault, decode, encode, is_record};
+use st_poolrec::{PoolRec, RecFault, decode, encode, encode_v1, is_record};
 use st_units::{Bytes, DevPath, DevRow, ItemList, Name, Segment, Tier};
 use std::alloc::Global;
 use std::process::Abort;
@@ -60,13 +60,28 @@ fn small_pool(alloc: Global) -> Result<PoolRec, Fail> {
     })
 }
 
-const POOL_CHANGES: [Change; 36] = [
+const POOL_CHANGES: [Change; 39] = [
     ("another serial", 0, 8, 9, true),
     ("both flags", 8, 4, 3, true),
-    ("a third flag", 8, 4, 4, false),
+    ("version 2", 8, 4, 6, true),
+    ("a fourth flag", 8, 4, 8, false),
     ("the last flag", 8, 4, 0x8000_0002, false),
     ("the greatest limit", 12, 4, 128, true),
     ("above the greatest limit", 12, 4, 129, false),
+    (
+        "the greatest limit of version 2",
+        8,
+        8,
+        (6 << 32) + 256,
+        true,
+    ),
+    (
+        "above the greatest limit of version 2",
+        8,
+        8,
+        (6 << 32) + 257,
+        false,
+    ),
     ("no name", 16, 2, 0, false),
     ("a name one byte longer", 16, 2, 2, false),
     ("a name longer than its field", 16, 2, 65, false),
@@ -130,6 +145,33 @@ fn neighbours_of_a_pool_record_are_told_from_records(rt: HostRuntime) -> Result<
     let bytes = pool_bytes(alloc, &small_pool(alloc)?)?;
     assert_eq!(rt; bytes.len(), 88 + 3 * 80 + 2 * 12);
     pool_neighbours(&rt, alloc, bytes.items(), &POOL_CHANGES)
+}
+
+#[test]
+fn a_pool_record_is_read_in_its_own_version(rt: HostRuntime) -> Result<(), Fail> {
+    let alloc = rt.alloc();
+    for version2 in [false, true] {
+        let mut rec = small_pool(alloc)?;
+        rec.version2 = version2;
+        let bytes = pool_bytes(alloc, &rec)?;
+        let flags: &[u8] = if version2 {
+            &[0, 0, 0, 6]
+        } else {
+            &[0, 0, 0, 2]
+        };
+        assert_eq!(rt; &bytes.items()[8..12], flags);
+        match decode(alloc, bytes.items()) {
+            Err(_) => return Err("no record".into()),
+            Ok(found) => {
+                assert_eq!(rt; found.version2, version2);
+                assert_eq!(rt; found.fs_limit, 100);
+            }
+        }
+        if !rec.version2 && is_record(&rec) {
+            assert_eq!(rt; encode_v1(alloc, &rec)?.items(), bytes.items());
+        }
+    }
+    Ok(())
 }
 
 /// Sixteen devices whose paths have 64 bytes, all blocks of each taken.
