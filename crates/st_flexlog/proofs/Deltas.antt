@@ -1,14 +1,14 @@
 -- Deltas and their spellings.
-use Rattle.std.proofs.Common.{◌≡◌, ℕ, ◌+◌, ◌*◌, ◌<◌, ◌≤◌, ◌^◌, Bool, true, false, cond, leb, eqb, List, [], ◌∷◌, ◌++◌, length, Option, Some, None, refl, sym, ap, ◌∙◌, arith}
+use Rattle.std.proofs.Common.{◌≡◌, ℕ, ◌+◌, ◌*◌, ◌≤◌, Bool, true, false, cond, leb, List, [], ◌++◌, length, Option, Some, None, refl, sym, ap, ◌∙◌, arith}
 use Rattle.std.specs.Str.{bytes_eq}
 use Rattle.std.proofs.lemmas.Bool.{true≢false, and_from, le-leb, eq-eqb}
 use Rattle.std.proofs.lemmas.Slice.Eq.{bytes_eq-Decides}
-use Rattle.st_fields.specs.Fields.{number_at, spelling}
+use Rattle.st_fields.specs.Fields.{spelling}
 use Rattle.st_fields.proofs.Spellings.{number-spelling}
 use Rattle.st_recrows.specs.Rows.{Spells, rows_text}
 use Rattle.st_flexlog.specs.declared.delta.Delta.{Delta}
 use Rattle.st_flexlog.specs.declared.delta.DeltaRow.{DeltaRow}
-use Rattle.st_flexlog.specs.Delta.{rows_before, rows_of, row_text, head_text, RowFits, IsInOrder, DeltaFits, delta_text, row_fields, count_in, delta_fields, delta_of}
+use Rattle.st_flexlog.specs.Delta.{rows_before, rows_of, row_text, RowFits, DeltaFits, delta_text, row_fields, count_in, delta_fields, delta_of}
 use Rattle.st_flexlog.specs.Counted.{has_counted_length}
 
 pub rows_few : (first second : Option DeltaRow) → length (rows_before first (rows_before second [])) ≤ 2

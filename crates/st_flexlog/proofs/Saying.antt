@@ -1,5 +1,5 @@
 -- What a log says: one state at most, and with one more delta what that makes of the state before.
-use Rattle.std.proofs.Common.{◌≡◌, ℕ, suc, ◌+◌, List, [], ◌∷◌, ◌++◌, length, Option, Some, None, refl, sym, ap, ◌∙◌}
+use Rattle.std.proofs.Common.{◌≡◌, ℕ, suc, ◌+◌, List, [], ◌∷◌, ◌++◌, length, Option, Some, sym, ap, ◌∙◌}
 use Rattle.st_recrows.specs.Rows.{Spells}
 use Rattle.st_flexrec.specs.declared.record.FlexRec.{FlexRec}
 use Rattle.st_flexrec.specs.Record.{record_text}
@@ -7,9 +7,9 @@ use Rattle.st_flexrec.specs.Conditions.{IsFlexRec}
 use Rattle.st_flexrec.proofs.ReadingLemmas.{same_record}
 use Rattle.st_flexlog.specs.declared.delta.Delta.{Delta}
 use Rattle.st_flexlog.specs.declared.state.FlexState.{FlexState}
-use Rattle.st_flexlog.specs.Delta.{DeltaFits, delta_text, delta_of}
+use Rattle.st_flexlog.specs.Delta.{DeltaFits, delta_text}
 use Rattle.st_flexlog.specs.State.{state_of}
-use Rattle.st_flexlog.specs.Applied.{applied, applied_if, applied_bytes}
+use Rattle.st_flexlog.specs.Applied.{applied, applied_if}
 use Rattle.st_flexlog.specs.Said.{then_applied, replayed, Says}
 use Rattle.st_flexlog.proofs.Deltas.{delta_back}
 

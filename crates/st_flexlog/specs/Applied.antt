@@ -1,5 +1,5 @@
 -- What a delta makes of the state of the generation before.
-use Rattle.std.specs.Prelude.{ℕ, ◌+◌, ◌*◌, ◌/◌, Bool, true, not, ◌&&◌, ◌||◌, nat_le, nat_lt, nat_eq, ◌==◌, List, [], ◌∷◌, length, Option, Some, None, if◌then◌else◌}
+use Rattle.std.specs.Prelude.{ℕ, ◌+◌, ◌*◌, ◌/◌, Bool, true, not, ◌&&◌, ◌||◌, nat_le, nat_lt, ◌==◌, List, [], ◌∷◌, length, Option, Some, None, if◌then◌else◌}
 use Rattle.std.specs.List.{list_all, list_any}
 use Rattle.st_limits.specs.declared.TheConstants.{BLOCK_SECTORS, MAX_MAPPINGS}
 use Rattle.st_units.specs.declared.rows.FsRow.{FsRow}

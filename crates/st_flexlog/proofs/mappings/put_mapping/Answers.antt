@@ -1,5 +1,4 @@
 use Rattle.std.proofs.Common.{◌≡◌, not, List, Some, None, true, sym, ap, ◌∙◌}
-use Rattle.std.specs.Prelude.{slice_get}
 use Rattle.std.specs.List.{position}
 use Rattle.st_flexlog.specs.declared.state.Mapping.{Mapping}
 use Rattle.st_flexlog.specs.Applied.{stands_before, is_of_block}
