@@ -97,91 +97,118 @@ fn state_at(alloc: Global, rec: &FlexRec, generation: u64) -> Result<FlexState, 
     }
 }
 
-const fn row(fs: u64, block: u32, place: u32, cell: u64) -> Option<DeltaRow> {
-    Some(DeltaRow {
-        fs,
-        block,
-        place,
-        cell,
-    })
-}
-
 /// What a delta of generation 3 over the small record says, and whether it applies: the row's name, serial, next cell, rows.
-type Applying = (
-    &'static str,
-    u64,
-    u64,
-    Option<DeltaRow>,
-    Option<DeltaRow>,
-    bool,
-);
+type Applying = (&'static str, u64, u64, Row, Row, bool);
+
+/// Filesystem, block, place and cell of a row.
+type Row = Option<(u64, u32, u32, u64)>;
+
+fn row_of(row: Row) -> Option<DeltaRow> {
+    match row {
+        None => None,
+        Some((fs, block, place, cell)) => Some(DeltaRow {
+            fs,
+            block,
+            place,
+            cell,
+        }),
+    }
+}
 
 /// The small record has filesystems 1 and 2 of two blocks and 3 of the greatest size, cells 1 to 3 at places 7, 5 and the
 /// greatest, and the next cell 4. Filesystem 2 alone maps to cell 2.
 const APPLYING: [Applying; 20] = [
     ("no rows", 1, 4, None, None, true),
-    ("a free block", 1, 5, row(1, 0, 9, 4), None, true),
-    ("two blocks", 1, 6, row(2, 0, 9, 4), row(2, 1, 10, 5), true),
+    ("a free block", 1, 5, Some((1, 0, 9, 4)), None, true),
+    (
+        "two blocks",
+        1,
+        6,
+        Some((2, 0, 9, 4)),
+        Some((2, 1, 10, 5)),
+        true,
+    ),
     (
         "the place of a cell that goes",
         1,
         5,
-        row(2, 0, 5, 4),
+        Some((2, 0, 5, 4)),
         None,
         true,
     ),
     ("another pool", 2, 4, None, None, false),
-    ("a next cell too low", 1, 4, row(1, 0, 9, 4), None, false),
-    ("a next cell too high", 1, 6, row(1, 0, 9, 4), None, false),
-    ("a cell number of old", 1, 5, row(1, 0, 9, 3), None, false),
-    ("a cell number left out", 1, 5, row(1, 0, 9, 5), None, false),
+    ("a next cell too low", 1, 4, Some((1, 0, 9, 4)), None, false),
+    (
+        "a next cell too high",
+        1,
+        6,
+        Some((1, 0, 9, 4)),
+        None,
+        false,
+    ),
+    (
+        "a cell number of old",
+        1,
+        5,
+        Some((1, 0, 9, 3)),
+        None,
+        false,
+    ),
+    (
+        "a cell number left out",
+        1,
+        5,
+        Some((1, 0, 9, 5)),
+        None,
+        false,
+    ),
     (
         "cells turned round",
         1,
         6,
-        row(2, 0, 9, 5),
-        row(2, 1, 10, 4),
+        Some((2, 0, 9, 5)),
+        Some((2, 1, 10, 4)),
         false,
     ),
     (
         "one cell twice",
         1,
         6,
-        row(2, 0, 9, 4),
-        row(2, 1, 10, 4),
+        Some((2, 0, 9, 4)),
+        Some((2, 1, 10, 4)),
         false,
     ),
-    ("no such filesystem", 1, 5, row(4, 0, 9, 4), None, false),
-    ("a block behind it", 1, 5, row(1, 2, 9, 4), None, false),
+    ("no such filesystem", 1, 5, Some((4, 0, 9, 4)), None, false),
+    ("a block behind it", 1, 5, Some((1, 2, 9, 4)), None, false),
     (
         "two filesystems",
         1,
         6,
-        row(1, 0, 9, 4),
-        row(2, 1, 10, 5),
+        Some((1, 0, 9, 4)),
+        Some((2, 1, 10, 5)),
         false,
     ),
     (
         "blocks turned round",
         1,
         6,
-        row(2, 1, 9, 4),
-        row(2, 0, 10, 5),
+        Some((2, 1, 9, 4)),
+        Some((2, 0, 10, 5)),
         false,
     ),
     (
         "one block twice",
         1,
         6,
-        row(2, 1, 9, 4),
-        row(2, 1, 10, 5),
+        Some((2, 1, 9, 4)),
+        Some((2, 1, 10, 5)),
         false,
     ),
     (
         "the place of a cell that stays",
         1,
         5,
-        row(1, 0, 7, 4),
+        Some((1, 0, 7, 4)),
         None,
         false,
     ),
@@ -189,7 +216,7 @@ const APPLYING: [Applying; 20] = [
         "the place of a shared cell",
         1,
         5,
-        row(1, 1, 7, 4),
+        Some((1, 1, 7, 4)),
         None,
         false,
     ),
@@ -197,15 +224,15 @@ const APPLYING: [Applying; 20] = [
         "one place twice",
         1,
         6,
-        row(2, 0, 9, 4),
-        row(2, 1, 9, 5),
+        Some((2, 0, 9, 4)),
+        Some((2, 1, 9, 5)),
         false,
     ),
     (
         "the greatest block",
         1,
         5,
-        row(3, 33_554_431, 9, 4),
+        Some((3, 33_554_431, 9, 4)),
         None,
         true,
     ),
@@ -219,8 +246,8 @@ fn deltas_apply_by_their_rules_alone(rt: HostRuntime) -> Result<(), Fail> {
         let delta = Delta {
             serial: *serial,
             next_cell: *next_cell,
-            first: *first,
-            second: *second,
+            first: row_of(*first),
+            second: row_of(*second),
         };
         let after = apply(state_at(alloc, &rec, 2)?, 3, &delta)?;
         assert_eq!(rt; after.is_some(), *good, "{name}");
@@ -229,8 +256,8 @@ fn deltas_apply_by_their_rules_alone(rt: HostRuntime) -> Result<(), Fail> {
     let two = Delta {
         serial: 1,
         next_cell: 6,
-        first: row(2, 0, 9, 4),
-        second: row(2, 1, 10, 5),
+        first: row_of(Some((2, 0, 9, 4))),
+        second: row_of(Some((2, 1, 10, 5))),
     };
     assert!(rt; apply(state_at(alloc, &rec, 2)?, 2, &two)?.is_none());
     Ok(())

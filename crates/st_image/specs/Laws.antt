@@ -1,0 +1,57 @@
+-- What is true of all pools, devices and images.
+use Rattle.std.specs.Prelude.{◌≡◌, ◌≢◌, ℕ, ◌+◌, Option, Some, map, slice_get}
+use Rattle.st_poolrec.specs.declared.record.PoolRec.{PoolRec}
+use Rattle.st_flexlog.specs.declared.state.FlexState.{FlexState}
+use Rattle.st_model.specs.declared.call.Call.{Call}
+use Rattle.st_model.specs.declared.state.PoolMode.TheVariants.{Up, Stopped}
+use Rattle.st_model.specs.declared.state.PoolState.{PoolState}
+use Rattle.st_model.specs.Checks.{cooled, halted}
+use Rattle.st_model.specs.Merged.{merged}
+use Rattle.st_rack.specs.Device.{Path, State, Image, Settling, held}
+use Rattle.st_rack.specs.Calls.{Devices, Has}
+use Rattle.st_rack.specs.Left.{LeftOn}
+use Rattle.st_rack.specs.Moments.{OnDevice, AllCut}
+use Rattle.st_image.specs.Looks.{look_of}
+use Rattle.st_image.specs.Bears.{paths}
+use Rattle.st_image.specs.Stands.{state_of, StandsFor}
+use Rattle.st_image.specs.Survivors.{IsBefore, after, Survives}
+use Rattle.st_image.specs.Kept.{as_pair, in_use, Kept}
+use Rattle.st_image.specs.Calm.{Calm}
+
+-- An image stands for one thing at most.
+abbrev pub StandsOnce : Type 0
+StandsOnce = (p : ℕ) (devs : Devices) (c : Image) (a b : Option PoolState) → StandsFor p devs c a → StandsFor p devs c b → a ≡ b
+
+-- What a crash leaves of a pool that is up stands for its merge, with the cells as reads give them.
+abbrev pub UpStands : Type 0
+UpStands = (p : ℕ) (devs : Devices) (g : ℕ) (rec : PoolRec) (st : FlexState) (s : State) (c : Image) → Calm p devs g rec st s → LeftOn (paths devs) look_of s c → StandsFor p devs c (Some (merged (state_of g rec st (held s))))
+
+-- A pool that is up is kept, where its state is what its records and the cells' bytes say.
+abbrev pub UpIsKept : Type 0
+UpIsKept = (pool : PoolState) (devs : Devices) (rec : PoolRec) (st : FlexState) (s : State) → pool.mode ≡ Up → pool.devices ≡ rec.devs → cooled Stopped pool ≡ state_of pool.commits rec st (held s)
+    → Calm pool.serial (map as_pair rec.devs) pool.commits rec st s → Kept pool devs s
+
+-- A pool is kept while the devices that it uses are what they were: where a rack is split, or joined.
+abbrev pub KeptWhereSame : Type 0
+KeptWhereSame = (pool : PoolState) (devs : Devices) (s t : State) → Kept pool devs s → ((k : ℕ) (d : Path) → slice_get (paths (in_use pool devs)) k ≡ Some d → t d ≡ s d) → Kept pool devs t
+
+-- A sync of a device, with success or without, keeps it, at each moment.
+abbrev pub KeptBySync : Type 0
+KeptBySync = (pool : PoolState) (devs : Devices) (s t : State) → Kept pool devs s → (dev : Path) → OnDevice dev Settling s t → Kept pool devs t
+
+-- A power cut keeps it.
+abbrev pub KeptByCut : Type 0
+KeptByCut = (pool : PoolState) (devs : Devices) (s t : State) → Kept pool devs s → (rack : Devices) → ((k : ℕ) (d : Path) → slice_get (paths (in_use pool devs)) k ≡ Some d → (n : ℕ) × Has rack d n) → AllCut rack s t → Kept pool devs t
+
+-- A pool that is stopped is kept as it was.
+abbrev pub KeptByStop : Type 0
+KeptByStop = (pool : PoolState) (devs : Devices) (s : State) → Kept pool devs s → Kept (halted pool) devs s
+
+-- Of what survives a call, other commits than those before tell that the call was done.
+abbrev pub OtherCommits : Type 0
+OtherCommits = (pool : PoolState) (call : Call) (devs : Devices) (q : PoolState) → Survives pool call devs (Some q) → q.commits ≢ pool.commits → Some q ≡ after pool call devs
+
+-- The same commits tell that it wasn't, where the call makes a commit.
+abbrev pub SameCommits : Type 0
+SameCommits = (pool : PoolState) (call : Call) (devs : Devices) (q : PoolState) → Survives pool call devs (Some q) → ((r : PoolState) → after pool call devs ≡ Some r → r.commits ≡ pool.commits + 1) → q.commits ≡ pool.commits
+    → IsBefore pool call (Some q)

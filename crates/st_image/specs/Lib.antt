@@ -1,0 +1,9 @@
+pub mod Looks
+pub mod Bears
+pub mod Stands
+pub mod Survivors
+pub mod Frame
+pub mod Kept
+pub mod Calm
+pub mod Pieces
+pub mod Laws

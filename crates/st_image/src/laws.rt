@@ -1,0 +1,48 @@
+//! Laws of what devices stand for and keep. They do nothing when they run.
+
+ghost use Rattle.st_image.specs.Laws.{StandsOnce, UpStands, UpIsKept, KeptWhereSame, KeptBySync, KeptByCut, KeptByStop, OtherCommits, SameCommits};
+
+/// Devices stand for one thing at most.
+pub fn stands_once()
+    ensures { StandsOnce }
+{}
+
+/// What a crash leaves of a pool that is up stands for its merge.
+pub fn up_stands()
+    ensures { UpStands }
+{}
+
+/// A pool that is up is kept.
+pub fn up_is_kept()
+    ensures { UpIsKept }
+{}
+
+/// A pool is kept where a rack is split or joined.
+pub fn kept_where_same()
+    ensures { KeptWhereSame }
+{}
+
+/// A pool is kept by a sync.
+pub fn kept_by_sync()
+    ensures { KeptBySync }
+{}
+
+/// A pool is kept by a power cut.
+pub fn kept_by_cut()
+    ensures { KeptByCut }
+{}
+
+/// A pool is kept by a stop.
+pub fn kept_by_stop()
+    ensures { KeptByStop }
+{}
+
+/// Other commits tell that a call in flight was done.
+pub fn other_commits()
+    ensures { OtherCommits }
+{}
+
+/// The same commits tell that it wasn't.
+pub fn same_commits()
+    ensures { SameCommits }
+{}
