@@ -7,7 +7,7 @@ use Rattle.st_model.specs.declared.info.PoolInfo.{PoolInfo}
 use Rattle.st_model.specs.declared.state.PoolState.{PoolState}
 use Rattle.st_model.specs.Look.{Text}
 use Rattle.st_model.specs.Shown.{pool_info}
-use Rattle.st_book.specs.Effects.{info_at}
+use Rattle.st_model.specs.Pieces.{info_at}
 
 -- the kept info of each cell that has no spare shows its state
 abbrev pub HaveInfos : {A : Type 0} → (A → Bool) → (A → Text) → (A → PoolState) → List PoolInfo → List A → Type 0

@@ -7,10 +7,10 @@ use Rattle.std.specs.Str.{bytes_eq}
 use Rattle.std.specs.Cmp.Lexicographic.{nat_list_eq_equiv}
 use Rattle.st_model.specs.declared.info.PoolInfo.{PoolInfo}
 use Rattle.st_model.specs.declared.state.PoolState.{PoolState}
-use Rattle.st_model.specs.Look.{Text, is_called}
-use Rattle.st_model.specs.Parts.{pool_at}
+use Rattle.st_model.specs.Look.{Text}
 use Rattle.st_model.specs.Shown.{pool_info}
-use Rattle.st_book.specs.Effects.{without_pool, is_info_of, info_at, renewed}
+use Rattle.st_model.specs.Pieces.{info_at}
+use Rattle.st_book.specs.Effects.{is_info_of, renewed}
 
 -- one more that fails the test isn't found
 pub none_more : {A B : Type 0} (f : A → B) (p : B → Bool) (xs : List A) (x : A) → find p (map f xs) ≡ None → p (f x) ≡ false → find p (map f (xs ++ x ∷ [])) ≡ None
@@ -29,24 +29,6 @@ found_first f p (y ∷ ys) zero x n at e =
 found_first f p (y ∷ ys) (suc i) x n at e =
     let cases : (b : Bool) → cond b (Some (f y)) (find p (map f (take i ys))) ≡ None → cond b (Some (f y)) (find p (map f ys)) ≡ Some (f x) = elim [ true ↦ (λ k. absurd cc) | false ↦ (λ k. found_first f p ys i x k at e) ] in
     cases (p (f y)) n
-
--- the pools without the first one of a name
-pub taken_out : {A : Type 0} (f : A → PoolState) (n : Text) (xs : List A) (i : ℕ) (x : A) → pool_at n (map f (take i xs)) ≡ None → slice_get xs i ≡ Some x → is_called n (f x) ≡ true → map f (remove xs i) ≡ without_pool n (map f xs)
-taken_out f n [] i x h at e = absurd cc
-taken_out f n (y ∷ ys) zero x h at e =
-    let same : y ≡ x = cc in
-    let g : is_called n (f y) ≡ true = subst (λ z. is_called n (f z) ≡ true) (sym same) e in
-    rw g refl
-taken_out f n (y ∷ ys) (suc i) x h at e =
-    let cases : (b : Bool) → cond b (Some (f y)) (pool_at n (map f (take i ys))) ≡ None → f y ∷ map f (remove ys i) ≡ cond b (map f ys) (f y ∷ without_pool n (map f ys)) = elim [ true ↦ (λ k. absurd cc) | false ↦ (λ k. ap (λ ps. f y ∷ ps) (taken_out f n ys i x k at e)) ] in
-    cases (is_called n (f y)) h
-
--- with no pool of the name, none goes
-pub none_out : (n : Text) (ps : List PoolState) → pool_at n ps ≡ None → without_pool n ps ≡ ps
-none_out n [] h = refl
-none_out n (p ∷ ps) h =
-    let cases : (b : Bool) → cond b (Some p) (pool_at n ps) ≡ None → cond b ps (p ∷ without_pool n ps) ≡ p ∷ ps = elim [ true ↦ (λ k. absurd cc) | false ↦ (λ k. ap (λ qs. p ∷ qs) (none_out n ps k)) ] in
-    cases (is_called n p) h
 
 -- a newer info in the place of the first of its name
 pub put_in : {A : Type 0} (f : A → PoolInfo) (n : Text) (xs : List A) (i : ℕ) (x y : A) → (f x).name ≡ n → info_at n (map f (take i xs)) ≡ None → slice_get xs i ≡ Some y → is_info_of n (f y) ≡ true → map f (set xs i x) ≡ renewed (f x) (map f xs)

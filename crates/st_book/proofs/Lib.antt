@@ -6,6 +6,7 @@ pub mod Pools
 pub mod AtHome
 pub mod Lending
 pub mod Numbers
+pub mod Sorting
 pub mod Standing
 pub mod Returned
 pub mod Renewing

@@ -1,10 +1,11 @@
 -- Look-ups by name in lists of named things, and lists whose names are apart.
-use Rattle.std.proofs.Common.{ℕ, ◌≡◌, ◌+◌, ◌≤◌, ◌⊎◌, inl, inr, Bool, true, false, not, ◌||◌, cond, List, [], ◌∷◌, ◌++◌, map, length, Option, Some, None, refl, ap, sym, ◌∙◌, arith}
+use Rattle.std.proofs.Common.{ℕ, ◌≡◌, ◌+◌, ◌≤◌, Bool, true, false, not, ◌||◌, cond, List, [], ◌∷◌, ◌++◌, map, filter, length, Option, Some, None, refl, ap, sym, ◌∙◌, arith}
 use Rattle.std.specs.Prelude.{find, is_some, option_map}
 use Rattle.std.specs.List.{AllByRecursion, IsDistinct, sum_by}
 use Rattle.std.specs.Str.{bytes_eq}
 use Rattle.std.specs.Set.{is_member}
 use Rattle.std.specs.Cmp.Lexicographic.{nat_list_eq_equiv}
+use Rattle.std.proofs.lemmas.Slice.Eq.{bytes_eq-Decides}
 use Rattle.std.proofs.lemmas.List.{length-map}
 use Rattle.std.proofs.lemmas.List.Sums.{sum_by-cons}
 use Rattle.std.proofs.lemmas.Map.Made.{length-le_from_is_member}
@@ -56,43 +57,88 @@ module _ {A : Type 0} (f : A → Text) where
       let ne : bytes_eq (f y) n ≡ false = flipped (f y) n ∙ (sym (other_name (f x) n (f y) e) ∙ h.0) in
       rw ne (none_of n x ys e h.1)
 
-  pub apart_push : (xs : List A) (x : A) (n : Text) → bytes_eq (f x) n ≡ true → at n xs ≡ None → AreApart xs → AreApart (xs ++ x ∷ [])
-  unfolding IsDistinct
-  apart_push [] x n e none h = (tt, tt)
-  apart_push (y ∷ ys) x n e none h =
-      let Goal : Type 0 = AreApart (y ∷ (ys ++ x ∷ [])) in
-      let cases : (b : Bool) → bytes_eq (f y) n ≡ b → cond b (Some y) (at n ys) ≡ None → Goal = elim [
-        | true ↦ (λ i k. absurd cc)
-        | false ↦ (λ i k.
-            let ne : bytes_eq (f y) (f x) ≡ false = flipped (f y) (f x) ∙ (other_name (f x) n (f y) e ∙ (flipped n (f y) ∙ i)) in
-            (all_last (λ z. bytes_eq (f y) z ≡ false) ys x h.0 ne, apart_push ys x n e k h.1))
-      ] in
-      cases (bytes_eq (f y) n) refl none
+  -- those whose names pass a test are found just where the name passes
+  pub found_filter : (p : Text → Bool) (n : Text) (xs : List A) → at n (filter (λ x. p (f x)) xs) ≡ cond (p n) (at n xs) None
+  found_filter p n [] = here (p n)
     where
-      all_last : (P : Text → Type 0) (zs : List A) (z : A) → AllByRecursion P (map f zs) → P (f z) → AllByRecursion P (map f (zs ++ z ∷ []))
-      all_last P [] z k p = (p, tt)
-      all_last P (w ∷ ws) z k p = (k.0, all_last P ws z k.1 p)
+      here : (b : Bool) → None ≡ cond b (at n []) None
+      here true = refl
+      here false = refl
+  found_filter p n (x ∷ xs) = here (bytes_eq (f x) n) (p (f x)) refl refl (found_filter p n xs)
+    where
+      here : (b c : Bool) → bytes_eq (f x) n ≡ b → p (f x) ≡ c → at n (filter (λ y. p (f y)) xs) ≡ cond (p n) (at n xs) None
+          → at n (cond c (x ∷ filter (λ y. p (f y)) xs) (filter (λ y. p (f y)) xs)) ≡ cond (p n) (cond b (Some x) (at n xs)) None
+      here true true e g rest =
+          let same : p n ≡ true = ap p (sym ((bytes_eq-Decides (f x) n).0 e)) ∙ g in
+          rw (e, same) refl
+      here true false e g rest =
+          let same : p n ≡ false = ap p (sym ((bytes_eq-Decides (f x) n).0 e)) ∙ g in
+          rest ∙ rw same refl
+      here false true e g rest = rw e rest
+      here false false e g rest = rest
 
-  -- what is found in a list with one more is an old one, or the one more
-  pub found_push : (n : Text) (xs : List A) (x r : A) → at n (xs ++ x ∷ []) ≡ Some r → (at n xs ≡ Some r) ⊎ ((x ≡ r) × (bytes_eq (f x) n ≡ true))
-  found_push n [] x r h =
-      let cases : (b : Bool) → bytes_eq (f x) n ≡ b → cond b (Some x) None ≡ Some r → (at n [] ≡ Some r) ⊎ ((x ≡ r) × (bytes_eq (f x) n ≡ true)) = elim [ true ↦ (λ e k. inr (cc, e)) | false ↦ (λ e k. absurd cc) ] in
-      cases (bytes_eq (f x) n) refl h
-  found_push n (y ∷ ys) x r h =
-      let cases : (b : Bool) → cond b (Some y) (at n (ys ++ x ∷ [])) ≡ Some r → (cond b (Some y) (at n ys) ≡ Some r) ⊎ ((x ≡ r) × (bytes_eq (f x) n ≡ true)) = elim [ true ↦ (λ k. inl k) | false ↦ (λ k. found_push n ys x r k) ] in
-      cases (bytes_eq (f y) n) h
+  all_filter : (P : Text → Type 0) (p : Text → Bool) (xs : List A) → AllByRecursion P (map f xs) → AllByRecursion P (map f (filter (λ x. p (f x)) xs))
+  all_filter P p [] h = tt
+  all_filter P p (x ∷ xs) h = here (p (f x)) (all_filter P p xs h.1)
+    where
+      here : (b : Bool) → AllByRecursion P (map f (filter (λ y. p (f y)) xs)) → AllByRecursion P (map f (cond b (x ∷ filter (λ y. p (f y)) xs) (filter (λ y. p (f y)) xs)))
+      here true rest = (h.0, rest)
+      here false rest = rest
 
-  pub found_keep : (n : Text) (xs : List A) (x r : A) → at n xs ≡ Some r → at n (xs ++ x ∷ []) ≡ Some r
-  found_keep n [] x r h = absurd cc
-  found_keep n (y ∷ ys) x r h =
-      let cases : (b : Bool) → cond b (Some y) (at n ys) ≡ Some r → cond b (Some y) (at n (ys ++ x ∷ [])) ≡ Some r = elim [ true ↦ (λ k. k) | false ↦ (λ k. found_keep n ys x r k) ] in
-      cases (bytes_eq (f y) n) h
+  pub apart_filter : (p : Text → Bool) (xs : List A) → AreApart xs → AreApart (filter (λ x. p (f x)) xs)
+  unfolding IsDistinct
+  apart_filter p [] h = tt
+  apart_filter p (x ∷ xs) h = here (p (f x)) (apart_filter p xs h.1)
+    where
+      here : (b : Bool) → AreApart (filter (λ y. p (f y)) xs) → AreApart (cond b (x ∷ filter (λ y. p (f y)) xs) (filter (λ y. p (f y)) xs))
+      here true rest = (all_filter (λ y. bytes_eq (f x) y ≡ false) p xs h.0, rest)
+      here false rest = rest
 
-  pub found_last : (n : Text) (xs : List A) (x : A) → at n xs ≡ None → bytes_eq (f x) n ≡ true → at n (xs ++ x ∷ []) ≡ Some x
-  found_last n [] x h e = rw e refl
-  found_last n (y ∷ ys) x h e =
-      let cases : (b : Bool) → cond b (Some y) (at n ys) ≡ None → cond b (Some y) (at n (ys ++ x ∷ [])) ≡ Some x = elim [ true ↦ (λ k. absurd cc) | false ↦ (λ k. found_last n ys x k e) ] in
-      cases (bytes_eq (f y) n) h
+  -- what is found in two lists put together
+  pub found_left : (n : Text) (xs ys : List A) (x : A) → at n xs ≡ Some x → at n (xs ++ ys) ≡ Some x
+  found_left n [] ys x h = absurd cc
+  found_left n (z ∷ zs) ys x h = here (bytes_eq (f z) n) h (found_left n zs ys x)
+    where
+      here : (b : Bool) → cond b (Some z) (at n zs) ≡ Some x → (at n zs ≡ Some x → at n (zs ++ ys) ≡ Some x) → cond b (Some z) (at n (zs ++ ys)) ≡ Some x
+      here true k rest = k
+      here false k rest = rest k
+
+  pub found_right : (n : Text) (xs ys : List A) → at n xs ≡ None → at n (xs ++ ys) ≡ at n ys
+  found_right n [] ys h = refl
+  found_right n (z ∷ zs) ys h = here (bytes_eq (f z) n) h (found_right n zs ys)
+    where
+      here : (b : Bool) → cond b (Some z) (at n zs) ≡ None → (at n zs ≡ None → at n (zs ++ ys) ≡ at n ys) → cond b (Some z) (at n (zs ++ ys)) ≡ at n ys
+      here true k rest = absurd cc
+      here false k rest = rest k
+
+  all_both : (P : Text → Type 0) (xs ys : List A) → AllByRecursion P (map f xs) → AllByRecursion P (map f ys) → AllByRecursion P (map f (xs ++ ys))
+  all_both P [] ys h g = g
+  all_both P (x ∷ xs) ys h g = (h.0, all_both P xs ys h.1 g)
+
+  -- a name that isn't found is apart from all
+  none_apart : (n : Text) (ys : List A) → at n ys ≡ None → AllByRecursion (λ y. bytes_eq n y ≡ false) (map f ys)
+  none_apart n [] h = tt
+  none_apart n (y ∷ ys) h = here (bytes_eq (f y) n) refl h (none_apart n ys)
+    where
+      here : (b : Bool) → bytes_eq (f y) n ≡ b → cond b (Some y) (at n ys) ≡ None → (at n ys ≡ None → AllByRecursion (λ z. bytes_eq n z ≡ false) (map f ys)) → AllByRecursion (λ z. bytes_eq n z ≡ false) (map f (y ∷ ys))
+      here true e k rest = absurd cc
+      here false e k rest = (flipped n (f y) ∙ e, rest k)
+
+  found_own : (x : A) (xs : List A) → at (f x) (x ∷ xs) ≡ Some x
+  found_own x xs = rw (nat_list_eq_equiv.refl (f x)) refl
+
+  -- lists apart, of which no name is in both, are apart together
+  pub apart_both : (xs ys : List A) → AreApart xs → AreApart ys → ((n : Text) (x : A) → at n xs ≡ Some x → at n ys ≡ None) → AreApart (xs ++ ys)
+  unfolding IsDistinct
+  apart_both [] ys h g other = g
+  apart_both (x ∷ xs) ys h g other = (
+    all_both (λ y. bytes_eq (f x) y ≡ false) xs ys h.0 (none_apart (f x) ys (other (f x) x (found_own x xs))),
+    apart_both xs ys h.1 g (λ n y k. here n (bytes_eq (f x) n) refl y k),
+  )
+    where
+      here : (n : Text) (b : Bool) → bytes_eq (f x) n ≡ b → (y : A) → at n xs ≡ Some y → at n ys ≡ None
+      here n true e y k = absurd (none_and_some (at n xs) y (none_of n x xs e h.0) k)
+      here n false e y k = other n y (rw e k)
 
   -- with none of any name there is none
   pub empty_of : (xs : List A) → ((n : Text) → at n xs ≡ None) → xs ≡ []

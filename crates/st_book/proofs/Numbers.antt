@@ -1,10 +1,10 @@
 -- The numbers noted at grants, over a log that grows.
-use Rattle.std.proofs.Common.{ℕ, zero, suc, ◌≡◌, ◌≢◌, ◌+◌, ◌<◌, ◌==◌, ◌⊎◌, inl, inr, Bool, true, false, not, ◌||◌, cond, List, [], ◌∷◌, ◌++◌, map, filter, length, refl, ap, sym, ◌∙◌, subst, arith, append-nil}
+use Rattle.std.proofs.Common.{ℕ, zero, suc, ◌≡◌, ◌≢◌, ◌+◌, ◌==◌, ◌⊎◌, inl, inr, Bool, true, false, ◌||◌, List, [], ◌∷◌, ◌++◌, length, refl, ap, sym, ◌∙◌, subst, arith}
 use Rattle.std.specs.Prelude.{Some as Just, None}
-use Rattle.std.specs.List.{Contains, sum_by}
+use Rattle.std.specs.List.{Contains}
 use Rattle.std.proofs.lemmas.Bool.Decides.{nat_tests}
 use Rattle.st_wants.specs.declared.row.LockRow.{LockRow}
-use Rattle.st_wants.specs.Lock.{Lock, row_at, new_row, marked, arrived, granted, released, IsLive}
+use Rattle.st_wants.specs.Lock.{Lock, row_at, new_row, arrived, granted, released, IsLive}
 use Rattle.st_wants.specs.Rules as rule
 use Rattle.st_grants.proofs.Lookups.{ticket_of}
 use Rattle.st_grants.proofs.Sound.{row_push, row_marked, row_left, row_gone, some_and}
@@ -129,6 +129,7 @@ lent-granted l u seat log x lent fresh none ticket h s t n is live = elim (noted
         by_event (Arrive a b c) = b
         by_event (Grant a b) = b
         by_event (Release a b c) = b
+
     not_same : (a b : ℕ) → (a ≡ b → ⊥) → (a == b) ≡ false
     not_same a b ne =
         let cases : (c : Bool) → (a == b) ≡ c → c ≡ false = elim [ true ↦ (λ e. absurd (let same : a ≡ b = grind (arith, nat_tests) in ne same)) | false ↦ (λ e. refl) ] in

@@ -1,14 +1,11 @@
 -- What the kept infos show once a part is back.
-use Rattle.std.proofs.Common.{◌≡◌, ◌+◌, inl, inr, Bool, true, false, not, cond, List, [], ◌∷◌, map, Option, refl, ap, sym, ◌∙◌, subst, arith}
-use Rattle.std.specs.Prelude.{Some as Just, None, option_map}
+use Rattle.std.proofs.Common.{◌≡◌, ◌+◌, Bool, true, false, not, cond, List, [], ◌∷◌, map, Option, refl, ap, sym, ◌∙◌, subst, arith}
+use Rattle.std.specs.Prelude.{Some, None, option_map}
 use Rattle.std.specs.List.{IsDistinct}
 use Rattle.std.specs.Str.{bytes_eq}
 use Rattle.std.proofs.lemmas.List.Filters.{sum_by-filter_both}
 use Rattle.std.proofs.lemmas.Slice.Eq.{bytes_eq-Decides}
 use Rattle.st_wants.specs.declared.want.Want.{Want}
-use Rattle.st_wants.specs.declared.want.Want.TheVariants.{Some, All}
-use Rattle.st_wants.specs.declared.want.Mode.TheVariants.{Read, Write}
-use Rattle.st_model.specs.declared.entry.Entry.{Entry}
 use Rattle.st_model.specs.declared.info.PoolInfo.{PoolInfo}
 use Rattle.st_model.specs.declared.state.EngineState.{EngineState}
 use Rattle.st_model.specs.declared.state.KnownPool.{KnownPool}
@@ -17,17 +14,14 @@ use Rattle.st_model.specs.declared.state.TableState.{TableState}
 use Rattle.st_model.specs.Look.{Text, is_started}
 use Rattle.st_model.specs.Parts.{known, pool_at, started, table_of}
 use Rattle.st_model.specs.Shown.{pool_info, halted_pools}
-use Rattle.st_history.specs.History.{state_after, AreOneCall, IsOf}
-use Rattle.st_history.proofs.Agreement.{entries_of_want, entries_agree}
-use Rattle.st_book.specs.Back.{all_renewed}
-use Rattle.st_book.specs.Effects.{info_at, renewed, takes_table}
-use Rattle.st_book.specs.Stands.{AreNamedApart, InfosShow, PartStands}
-use Rattle.st_book.specs.View.{TableView}
-use Rattle.st_book.proofs.Named.{none_and_some, other_name, flipped, same_found, name_found, count_named, none_counted, counted_none, map_counted, map_found, map_names}
+use Rattle.st_book.specs.Effects.{renewed, all_renewed}
+use Rattle.st_wants.specs.Wants.{writes, takes_table}
+use Rattle.st_model.specs.Pieces.{AreNamedApart, info_at, ArePools, ShowPools, every}
+use Rattle.st_book.proofs.Named.{none_and_some, none_of, other_name, flipped, count_named, none_counted, counted_none, map_counted, map_found, map_names}
 use Rattle.st_book.proofs.Pools.{name_of}
-use Rattle.st_book.proofs.Returned.{is_back, others_stay, table_stays}
+use Rattle.st_book.proofs.Returned.{Keeps}
 
-abbrev info_name_of : PoolInfo → Text
+abbrev pub info_name_of : PoolInfo → Text
 info_name_of info = info.name
 
 pub info_name : (p : PoolState) → (pool_info p).name ≡ p.name
@@ -56,7 +50,14 @@ none_kept n s t same none =
     let b = started_counted n s t same in
     none_counted name_of n (started s) (sym b ∙ a)
 
-renewed_names : (info : PoolInfo) (infos : List PoolInfo) → map info_name_of (renewed info infos) ≡ map info_name_of infos
+was_started : (n : Text) (s t : EngineState) → table_of t ≡ table_of s → (q : PoolState) → pool_at n (started t) ≡ Some q → (p : PoolState) × (pool_at n (started s) ≡ Some p)
+was_started n s t same q is = here (pool_at n (started s)) refl
+  where
+    here : (o : Option PoolState) → pool_at n (started s) ≡ o → (p : PoolState) × (pool_at n (started s) ≡ Some p)
+    here (Some p) e = (p, e)
+    here None e = absurd (none_and_some (pool_at n (started t)) q (none_kept n t s (sym same) e) is)
+
+pub renewed_names : (info : PoolInfo) (infos : List PoolInfo) → map info_name_of (renewed info infos) ≡ map info_name_of infos
 renewed_names info [] = refl
 renewed_names info (x ∷ xs) =
     let cases : (b : Bool) → bytes_eq x.name info.name ≡ b → map info_name_of (cond b (info ∷ xs) (x ∷ renewed info xs)) ≡ x.name ∷ map info_name_of xs = elim [
@@ -65,93 +66,80 @@ renewed_names info (x ∷ xs) =
     ] in
     cases (bytes_eq x.name info.name) refl
 
-renewed_other : (m : Text) (info : PoolInfo) (infos : List PoolInfo) → bytes_eq info.name m ≡ false → info_at m (renewed info infos) ≡ info_at m infos
+pub renewed_other : (m : Text) (info : PoolInfo) (infos : List PoolInfo) → bytes_eq info.name m ≡ false → info_at m (renewed info infos) ≡ info_at m infos
 renewed_other m info [] ne = refl
 renewed_other m info (x ∷ xs) ne =
-    let cases : (b : Bool) → bytes_eq x.name info.name ≡ b → info_at m (cond b (info ∷ xs) (x ∷ renewed info xs)) ≡ cond (bytes_eq x.name m) (Just x) (info_at m xs) = elim [
+    let cases : (b : Bool) → bytes_eq x.name info.name ≡ b → info_at m (cond b (info ∷ xs) (x ∷ renewed info xs)) ≡ cond (bytes_eq x.name m) (Some x) (info_at m xs) = elim [
       | true ↦ (λ e. let xm : bytes_eq x.name m ≡ false = other_name x.name info.name m e ∙ ne in rw (ne, xm) refl)
-      | false ↦ (λ e. ap (λ o. cond (bytes_eq x.name m) (Just x) o) (renewed_other m info xs ne))
+      | false ↦ (λ e. ap (λ o. cond (bytes_eq x.name m) (Some x) o) (renewed_other m info xs ne))
     ] in
     cases (bytes_eq x.name info.name) refl
 
-renewed_own : (m : Text) (info y : PoolInfo) (infos : List PoolInfo) → bytes_eq info.name m ≡ true → info_at m infos ≡ Just y → info_at m (renewed info infos) ≡ Just info
+renewed_own : (m : Text) (info y : PoolInfo) (infos : List PoolInfo) → bytes_eq info.name m ≡ true → info_at m infos ≡ Some y → info_at m (renewed info infos) ≡ Some info
 renewed_own m info y [] own h = absurd cc
 renewed_own m info y (x ∷ xs) own h =
     let flip : bytes_eq x.name info.name ≡ bytes_eq x.name m = flipped x.name info.name ∙ (other_name info.name m x.name own ∙ flipped m x.name) in
-    let cases : (b : Bool) → bytes_eq x.name m ≡ b → cond b (Just x) (info_at m xs) ≡ Just y → info_at m (cond b (info ∷ xs) (x ∷ renewed info xs)) ≡ Just info = elim [
+    let cases : (b : Bool) → bytes_eq x.name m ≡ b → cond b (Some x) (info_at m xs) ≡ Some y → info_at m (cond b (info ∷ xs) (x ∷ renewed info xs)) ≡ Some info = elim [
       | true ↦ (λ e k. rw own refl)
       | false ↦ (λ e k. rw e (renewed_own m info y xs own k))
     ] in
     rw flip (cases (bytes_eq x.name m) refl h)
 
--- a pool's newer info in the place of the older one shows the state in which that pool alone is another
-infos_one : (n : Text) (s t : EngineState) (q : PoolState) (infos : List PoolInfo) → ((m : Text) → bytes_eq n m ≡ false → pool_at m (started t) ≡ pool_at m (started s)) → table_of t ≡ table_of s → pool_at n (started t) ≡ Just q → InfosShow s infos → InfosShow t (renewed (pool_info q) infos)
-infos_one n s t q infos others same is h =
-    let info : PoolInfo = pool_info q in
-    let named : bytes_eq q.name n ≡ true = name_found name_of n (started t) q is in
-    let named' : bytes_eq info.name n ≡ true = ap (λ a. bytes_eq a n) (info_name q) ∙ named in
-    let old : (o : Option PoolState) → pool_at n (started s) ≡ o → (p : PoolState) × (pool_at n (started s) ≡ Just p) = elim [
-      | Just p ↦ (λ e. (p, e))
-      | None ↦ (λ e. absurd (none_and_some (pool_at n (started t)) q (none_kept n t s (sym same) e) is))
-    ] in
-    let was = old (pool_at n (started s)) refl in
-    record {
-      apart = subst (λ z. IsDistinct bytes_eq z) (sym (renewed_names info infos)) h.apart;
-      shown = λ m.
-          let cases : (b : Bool) → bytes_eq n m ≡ b → info_at m (renewed info infos) ≡ option_map pool_info (pool_at m (started t)) = elim [
-            | true ↦ (λ e.
-                let kept : info_at m infos ≡ Just (pool_info was.0) = h.shown m ∙ ap (option_map pool_info) (sym (same_found name_of n m (started s) e) ∙ was.1) in
-                let own : bytes_eq info.name m ≡ true = other_name info.name n m named' ∙ e in
-                let now : pool_at m (started t) ≡ Just q = sym (same_found name_of n m (started t) e) ∙ is in
-                renewed_own m info (pool_info was.0) infos own kept ∙ sym (ap (option_map pool_info) now))
-            | false ↦ (λ e.
-                let other : bytes_eq info.name m ≡ false = other_name info.name n m named' ∙ e in
-                renewed_other m info infos other ∙ (h.shown m ∙ ap (option_map pool_info) (sym (others m e))))
-          ] in
-          cases (bytes_eq n m) refl;
-    }
+abbrev infos_of : List PoolState → List PoolInfo
+infos_of = map pool_info
 
--- where the pool of a name is started in neither state, all infos stay
-infos_none : (n : Text) (s t : EngineState) (infos : List PoolInfo) → ((m : Text) → bytes_eq n m ≡ false → pool_at m (started t) ≡ pool_at m (started s)) → table_of t ≡ table_of s → pool_at n (started t) ≡ None → InfosShow s infos → InfosShow t infos
-infos_none n s t infos others same none h =
-    let was : pool_at n (started s) ≡ None = none_kept n s t same none in
-    record {
-      apart = h.apart;
-      shown = λ m.
-          let cases : (b : Bool) → bytes_eq n m ≡ b → pool_at m (started s) ≡ pool_at m (started t) = elim [
-            | true ↦ (λ e. sym (same_found name_of n m (started s) e) ∙ (was ∙ (sym none ∙ same_found name_of n m (started t) e)))
-            | false ↦ (λ e. sym (others m e))
-          ] in
-          h.shown m ∙ ap (option_map pool_info) (cases (bytes_eq n m) refl);
-    }
+all_renewed_names : (is infos : List PoolInfo) → map info_name_of (all_renewed is infos) ≡ map info_name_of infos
+all_renewed_names [] infos = refl
+all_renewed_names (i ∷ is) infos = all_renewed_names is (renewed i infos) ∙ renewed_names i infos
+
+-- the info of a name of which no pool came back is the old one
+all_renewed_other : (n : Text) (ps : List PoolState) (infos : List PoolInfo) → pool_at n ps ≡ None → info_at n (all_renewed (infos_of ps) infos) ≡ info_at n infos
+all_renewed_other n [] infos h = refl
+all_renewed_other n (p ∷ ps) infos h = here (bytes_eq p.name n) refl h (all_renewed_other n ps (renewed (pool_info p) infos))
+  where
+    here : (b : Bool) → bytes_eq p.name n ≡ b → cond b (Some p) (pool_at n ps) ≡ None → (pool_at n ps ≡ None → info_at n (all_renewed (infos_of ps) (renewed (pool_info p) infos)) ≡ info_at n (renewed (pool_info p) infos)) → info_at n (all_renewed (infos_of (p ∷ ps)) infos) ≡ info_at n infos
+    here true e k rest = absurd cc
+    here false e k rest = rest k ∙ renewed_other n (pool_info p) infos (ap (λ a. bytes_eq a n) (info_name p) ∙ e)
+
+-- that of a pool that came back shows it, where there was one
+all_renewed_own : (n : Text) (ps : List PoolState) (infos : List PoolInfo) (q : PoolState) (y : PoolInfo) → AreNamedApart ps → pool_at n ps ≡ Some q → info_at n infos ≡ Some y → info_at n (all_renewed (infos_of ps) infos) ≡ Some (pool_info q)
+unfolding IsDistinct
+all_renewed_own n [] infos q y apart h k = absurd cc
+all_renewed_own n (p ∷ ps) infos q y apart h k = here (bytes_eq p.name n) refl h (all_renewed_own n ps (renewed (pool_info p) infos) q y apart.1)
+  where
+    here : (b : Bool) → bytes_eq p.name n ≡ b → cond b (Some p) (pool_at n ps) ≡ Some q → (pool_at n ps ≡ Some q → info_at n (renewed (pool_info p) infos) ≡ Some y → info_at n (all_renewed (infos_of ps) (renewed (pool_info p) infos)) ≡ Some (pool_info q)) → info_at n (all_renewed (infos_of (p ∷ ps)) infos) ≡ Some (pool_info q)
+    here true e m more =
+        let same : p ≡ q = cc in
+        let named : bytes_eq (pool_info p).name n ≡ true = ap (λ a. bytes_eq a n) (info_name p) ∙ e in
+        let rest : info_at n (all_renewed (infos_of ps) (renewed (pool_info p) infos)) ≡ info_at n (renewed (pool_info p) infos) = all_renewed_other n ps (renewed (pool_info p) infos) (none_of name_of n p ps e apart.0) in
+        rest ∙ (renewed_own n (pool_info p) y infos named k ∙ ap (λ (z : PoolState). Some (pool_info z)) same)
+    here false e m more =
+        let other : info_at n (renewed (pool_info p) infos) ≡ Some y = renewed_other n (pool_info p) infos (ap (λ a. bytes_eq a n) (info_name p) ∙ e) ∙ k in
+        more m other
 
 -- the infos after a part without the table came back
-pub infos_back : (w : Want) (s : EngineState) (es : List Entry) (part : List PoolState) (held : Option TableView) (infos : List PoolInfo) → takes_table w ≡ false → AreOneCall s es → IsOf w es → PartStands w (state_after s es) part held → InfosShow s infos → InfosShow (state_after s es) (all_renewed part infos)
-infos_back (Some n Write) s es part held infos no_table one of stands h =
-    let all = entries_of_want s (Some n Write) es one of in
-    let t : EngineState = state_after s es in
-    let same = table_stays n Write s es all in
-    elim (is_back n t part stands.0) [
-      | inl none ↦ subst (λ ps. InfosShow t (all_renewed ps infos)) (sym none.1) (infos_none n s t infos (λ m ne. others_stay n m s es all ne) same none.0 h)
-      | inr it ↦ subst (λ ps. InfosShow t (all_renewed ps infos)) (sym it.2) (infos_one n s t it.0 infos (λ m ne. others_stay n m s es all ne) same it.1 h)
-    ]
-infos_back (Some n Read) s es part held infos no_table one of stands h =
-    let same : s ≡ state_after s es = entries_agree (All Read) (Some n Read) s es (entries_of_want s (Some n Read) es one of) refl in
-    subst (λ ps. InfosShow (state_after s es) (all_renewed ps infos)) (sym stands.0) (subst (λ z. InfosShow z infos) same h)
-infos_back (All Write) s es part held infos no_table one of stands h = absurd cc
-infos_back (All Read) s es part held infos no_table one of stands h =
-    let same : s ≡ state_after s es = entries_agree (All Read) (All Read) s es (entries_of_want s (All Read) es one of) refl in
-    subst (λ ps. InfosShow (state_after s es) (all_renewed ps infos)) (sym stands.0) (subst (λ z. InfosShow z infos) same h)
-
--- the table after it is as it was
-pub table_kept : (w : Want) (s : EngineState) (es : List Entry) → takes_table w ≡ false → AreOneCall s es → IsOf w es → table_of (state_after s es) ≡ table_of s
-table_kept (Some n m) s es no_table one of = table_stays n m s es (entries_of_want s (Some n m) es one of)
-table_kept (All Write) s es no_table one of = absurd cc
-table_kept (All Read) s es no_table one of = ap table_of (sym (entries_agree (All Read) (All Read) s es (entries_of_want s (All Read) es one of) refl))
+pub infos_back : (w : Want) (s t : EngineState) (part : List PoolState) (infos : List PoolInfo) → takes_table w ≡ false → Keeps w s t → ArePools (writes w) t part → ShowPools every s infos → ShowPools every t (all_renewed (infos_of part) infos)
+infos_back w s t part infos no_table keeps are h = record {
+  apart = subst (λ z. IsDistinct bytes_eq z) (sym (all_renewed_names (infos_of part) infos)) h.apart;
+  shown = λ n. here n (writes w n) refl (pool_at n (started t)) refl;
+}
+  where
+    here : (n : Text) (b : Bool) → writes w n ≡ b → (o : Option PoolState) → pool_at n (started t) ≡ o → info_at n (all_renewed (infos_of part) infos) ≡ option_map pool_info (pool_at n (started t))
+    here n false e o k =
+        let none : pool_at n part ≡ None = are.found n ∙ ap (λ c. cond c (pool_at n (started t)) None) e in
+        all_renewed_other n part infos none ∙ (h.shown n ∙ ap (option_map pool_info) (sym (keeps.pools n e)))
+    here n true e None k =
+        let none : pool_at n part ≡ None = are.found n ∙ (ap (λ c. cond c (pool_at n (started t)) None) e ∙ k) in
+        let was : pool_at n (started s) ≡ None = none_kept n s t (keeps.table no_table) k in
+        all_renewed_other n part infos none ∙ (h.shown n ∙ (ap (option_map pool_info) was ∙ sym (ap (option_map pool_info) k)))
+    here n true e (Some q) k =
+        let there : pool_at n part ≡ Some q = are.found n ∙ (ap (λ c. cond c (pool_at n (started t)) None) e ∙ k) in
+        let old = was_started n s t (keeps.table no_table) q k in
+        all_renewed_own n part infos q (pool_info old.0) are.apart there (h.shown n ∙ ap (option_map pool_info) old.1) ∙ sym (ap (option_map pool_info) k)
 
 -- infos made anew of all cells
-pub infos_all : (s : EngineState) (part : List PoolState) → AreNamedApart part → ((n : Text) → pool_at n part ≡ pool_at n (started s)) → InfosShow s (map pool_info part)
-infos_all s part apart found = record {
-  apart = subst (λ z. IsDistinct bytes_eq z) (sym (map_names name_of info_name_of pool_info info_name part)) apart;
-  shown = λ n. map_found name_of info_name_of pool_info info_name n part ∙ ap (option_map pool_info) (found n);
+pub infos_all : (w : Want) (s : EngineState) (part : List PoolState) → ((n : Text) → writes w n ≡ true) → ArePools (writes w) s part → ShowPools every s (infos_of part)
+infos_all w s part all are = record {
+  apart = subst (λ z. IsDistinct bytes_eq z) (sym (map_names name_of info_name_of pool_info info_name part)) are.apart;
+  shown = λ n. map_found name_of info_name_of pool_info info_name n part ∙ ap (option_map pool_info) (are.found n ∙ ap (λ c. cond c (pool_at n (started s)) None) (all n));
 }

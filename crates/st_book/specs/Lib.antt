@@ -1,7 +1,7 @@
 pub mod View
 pub mod Noted
 pub mod Effects
-pub mod Back
 pub mod Callers
 pub mod Stands
 pub mod Rooms
+pub mod inner

@@ -2,9 +2,8 @@ ghost use Rattle.std.specs.Prelude.{◌≡◌, ◌+◌, ◌≤◌, ◌<◌, ◌�
 ghost use Rattle.std.specs.List.{AllByRecursion, IsDistinct, sum_by};
 ghost use Rattle.st_model.specs.Parts.{shown_table};
 ghost use Rattle.st_model.specs.Shown.{pool_info};
-ghost use Rattle.st_book.specs.Effects.{info_at, renewed};
-ghost use Rattle.st_book.specs.Stands.{AreNamedApart};
-ghost use Rattle.st_book.specs.Back.{all_renewed};
+ghost use Rattle.st_model.specs.Pieces.{AreNamedApart, info_at};
+ghost use Rattle.st_book.specs.Effects.{renewed, all_renewed};
 
 use crate::part::{Cells, InfoList};
 use crate::showing::info_place;
@@ -63,29 +62,46 @@ fn renew<C: Cell>(infos: &mut InfoList<C::Info>, cell: &mut C)
     }
 }
 
-/// Puts the cell of a part, if it has one, with those at home, and its newer info in place of the older one.
-pub(crate) fn bring_one<C: Cell>(
+/// Puts a cell with those at home, and its newer info in place of the older one.
+fn bring_renewed<C: Cell>(cells: &mut Cells<C>, infos: &mut InfoList<C::Info>, cell: C)
+    requires { 0 < cells.old.room }
+    ensures home { map C.state cells.new.items ≡ map C.state cells.old.items ++ C.state cell ∷ [] }
+    ensures infos { (C.has_spare cell ≡ false → info_at (C.named cell) (map C.shows infos.old.items) ≡ Some (pool_info (C.state cell)))
+        → map C.shows infos.new.items ≡ renewed (pool_info (C.state cell)) (map C.shows infos.old.items) }
+    ensures len { length infos.new.items ≡ length infos.old.items }
+    ensures room { infos.new.room ≡ infos.old.room }
+    ensures cells_len { length cells.new.items ≡ length cells.old.items + 1 }
+    ensures places { length cells.old.items + cells.old.room ≤ length cells.new.items + cells.new.room }
+    ensures test { AllByRecursion C.is_kept cells.old.items → C.is_kept cell → AllByRecursion C.is_kept cells.new.items }
+    ensures faults { sum_by C.fault_count cells.new.items ≡ sum_by C.fault_count cells.old.items + C.fault_count cell }
+{
+    let mut cell = cell;
+    renew(infos, &mut cell);
+    cells.put(cell);
+}
+
+/// Puts the cells of a part with those at home, and their newer infos in place of the older ones.
+pub(crate) fn bring_some<C: Cell>(
     cells: &mut Cells<C>,
     infos: &mut InfoList<C::Info>,
     part: Cells<C>,
 )
-    requires few { length part.items ≤ 1 }
     requires fits { length cells.old.items + length part.items ≤ 16 }
     requires places { 16 ≤ length cells.old.items + cells.old.room }
     ensures home { map C.state cells.new.items ≡ map C.state cells.old.items ++ map C.state part.items }
     ensures infos { AllByRecursion (λ c. C.has_spare c ≡ false → info_at (C.named c) (map C.shows infos.old.items) ≡ Some (pool_info (C.state c))) part.items
-        → map C.shows infos.new.items ≡ all_renewed (map C.state part.items) (map C.shows infos.old.items) }
+        → AreNamedApart (map C.state part.items) → map C.shows infos.new.items ≡ all_renewed (map pool_info (map C.state part.items)) (map C.shows infos.old.items) }
     ensures len { length infos.new.items ≡ length infos.old.items }
     ensures room { infos.new.room ≡ infos.old.room }
+    ensures few { length cells.new.items ≤ 16 }
     ensures places { 16 ≤ length cells.new.items + cells.new.room }
     ensures test { AllByRecursion C.is_kept cells.old.items → AllByRecursion C.is_kept part.items → AllByRecursion C.is_kept cells.new.items }
     ensures faults { sum_by C.fault_count cells.new.items ≡ sum_by C.fault_count cells.old.items + sum_by C.fault_count part.items }
 {
     let mut part = part;
-    if part.len() > 0 {
-        let mut cell = part.take_at(0);
-        renew(infos, &mut cell);
-        cells.put(cell);
+    for _ in 0..part.len() {
+        let cell = part.take_at(0);
+        bring_renewed(cells, infos, cell);
     }
     part.finish();
 }
@@ -150,6 +166,7 @@ pub(crate) fn bring_all<C: Cell>(
     ensures infos { AllByRecursion (λ c. C.has_spare c ≡ false → info_at (C.named c) (map C.shows infos.old.items) ≡ Some (pool_info (C.state c))) part.items
         → AreNamedApart (map C.state part.items) → map C.shows infos.new.items ≡ map pool_info (map C.state part.items) }
     ensures few { length infos.new.items ≤ 16 }
+    ensures few_cells { length cells.new.items ≤ 16 }
     ensures info_places { 16 ≤ length infos.new.items + infos.new.room }
     ensures empty { length fresh.new.items ≡ 0 }
     ensures room { 16 ≤ fresh.new.room }

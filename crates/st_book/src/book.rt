@@ -7,14 +7,15 @@ ghost use Rattle.st_model.specs.Parts.{started, table_of, shown_table};
 ghost use Rattle.st_model.specs.Shown.{pool_info};
 ghost use Rattle.st_history.specs.Failures.{failures, failures_of};
 ghost use Rattle.st_history.specs.History.{History, replay};
-ghost use Rattle.st_book.specs.Back.{all_renewed};
-ghost use Rattle.st_book.specs.Effects.{IsFitting, info_at, takes_table};
-ghost use Rattle.st_book.specs.Stands.{AreNamedApart, Stands, PartStands, PartShows, ComesBack};
+ghost use Rattle.st_wants.specs.Wants.{takes_table};
+ghost use Rattle.st_model.specs.Pieces.{AreNamedApart, info_at};
+ghost use Rattle.st_book.specs.Effects.{all_renewed};
+ghost use Rattle.st_book.specs.Stands.{Stands, PartStands, PartShows, ComesBack};
 ghost use Rattle.st_book.specs.View.{is_lent_to, lent_at, or_zero};
 ghost use Rattle.st_wants.specs.declared.want.Want.TheVariants as wants;
 ghost use Rattle.st_wants.specs.declared.want.Mode.TheVariants as modes;
 
-use crate::back::{bring_all, bring_one, renew_table};
+use crate::back::{bring_all, bring_some, renew_table};
 use crate::home::{take_cells, take_table};
 use crate::lent::{Lent, faults_of, forget};
 use crate::lists::Lists;
@@ -52,7 +53,7 @@ pub struct Book<C: Cell, T: Board> {
 }
 
 impl<C: Cell, T: Board> Model for Book<C, T> {
-    ghost use Rattle.std.specs.Prelude.{◌≡◌, ◌+◌, ◌-◌, map, length, option_map, is_some, IfSome, vec_len, vec_capacity};
+    ghost use Rattle.std.specs.Prelude.{◌≡◌, ◌+◌, ◌-◌, ◌≤◌, map, length, option_map, is_some, IfSome, vec_len, vec_capacity};
     ghost use Rattle.std.specs.List.{AllByRecursion, sum_by};
     ghost use Rattle.st_book.specs.Noted.{numbers};
     ghost use Rattle.st_book.specs.Rooms.{HasRoom};
@@ -74,7 +75,7 @@ impl<C: Cell, T: Board> Model for Book<C, T> {
 
     ghost invariant = { λ b.
         HasRoom b.grants b.log.room (length b.spares.items) (vec_capacity b.lent - vec_len b.lent) (length b.cells.items + b.cells.room) (length b.infos.items + b.infos.room) (length b.infos.items) b.fresh.room (is_some b.table)
-        × (length b.fresh.items ≡ 0) × AllByRecursion C.is_kept b.cells.items × IfSome b.table T.is_kept };
+        × (length b.fresh.items ≡ 0) × AllByRecursion C.is_kept b.cells.items × IfSome b.table T.is_kept × (length b.cells.items ≤ 16) };
 }
 
 impl<C: Cell, T: Board> Book<C, T> {
@@ -170,6 +171,7 @@ impl<C: Cell, T: Board> Book<C, T> {
         ensures shown { IfOk result (λ p. p.short ≡ false → (s : EngineState) (base : ℕ) → Stands s base self.old → IfSome (row_at ticket self.old.lock.rows) (λ r.
             PartShows r.want (replay s self.old.log) (map C.shows p.infos.items) (option_map T.shows p.table_info))) }
         ensures short { IfOk result (λ p. p.short ≡ true → (p.infos.items ≡ []) × (p.table_info ≡ None)) }
+        ensures due { IfOk result (λ p. p.short ≡ true → IfSome (row_at ticket self.old.lock.rows) (λ r. takes_table r.want ≡ false)) }
         ensures slack { IfOk result (λ p. (s : EngineState) (base : ℕ) → Stands s base self.old → IfSome p.table (λ t. base ≤ T.slack t)) }
         ensures lent { IfOk result (λ p. (s : EngineState) (base : ℕ) → Stands s base self.old → length self.old.log < 2 ^ 62
             → lent_at ticket self.new.lent ≡ or_zero (option_map T.fault_count p.table) + sum_by C.fault_count p.cells.items) }
@@ -210,7 +212,7 @@ impl<C: Cell, T: Board> Book<C, T> {
     /// spares of what comes back are taken over.
     pub fn release(&mut self, ticket: u64, part: Part<C, T>, entries: EntryList)
         requires live { IsLive self.old.lock ticket }
-        requires fitting { IfSome (row_at ticket self.old.lock.rows) (λ r. IsFitting r.want (length part.cells.items) (is_some part.table)) }
+        requires fitting { IfSome (row_at ticket self.old.lock.rows) (λ r. is_some part.table ≡ takes_table r.want) }
         requires few { length self.old.cells + length part.cells.items ≤ 16 }
         requires kept { AllByRecursion C.is_kept part.cells.items × IfSome part.table T.is_kept }
         ensures lock { self.new.lock ≡ released ticket self.old.lock }
@@ -240,14 +242,13 @@ impl<C: Cell, T: Board> Book<C, T> {
     fn release_one(&mut self, ticket: u64, part: Cells<C>, entries: EntryList)
         requires live { IsLive self.old.lock ticket }
         requires no_table { IfSome (row_at ticket self.old.lock.rows) (λ r. takes_table r.want ≡ false) }
-        requires one { length part.items ≤ 1 }
         requires few { length self.old.cells + length part.items ≤ 16 }
         requires kept { AllByRecursion C.is_kept part.items }
         ensures lock { self.new.lock ≡ released ticket self.old.lock }
         ensures log { IfSome (row_at ticket self.old.lock.rows) (λ r. self.new.log ≡ self.old.log ++ Event.Release r.seat ticket entries ∷ []) }
         ensures cells { self.new.cells ≡ self.old.cells ++ map C.state part.items }
         ensures infos { AllByRecursion (λ c. C.has_spare c ≡ false → info_at (C.named c) self.old.infos ≡ Some (pool_info (C.state c))) part.items
-            → self.new.infos ≡ all_renewed (map C.state part.items) self.old.infos }
+            → AreNamedApart (map C.state part.items) → self.new.infos ≡ all_renewed (map pool_info (map C.state part.items)) self.old.infos }
         ensures table { self.new.table ≡ self.old.table }
         ensures table_info { self.new.table_info ≡ self.old.table_info }
         ensures faults { self.new.faults ≡ self.old.faults + sum_by C.fault_count part.items }
@@ -255,7 +256,7 @@ impl<C: Cell, T: Board> Book<C, T> {
         ensures notes { self.new.notes ≡ self.old.notes }
     {
         let seat = self.grants.seat(ticket);
-        bring_one(&mut self.cells, &mut self.infos, part);
+        bring_some(&mut self.cells, &mut self.infos, part);
         forget(&mut self.lent, ticket);
         self.grants.release(ticket);
         self.log.put(Event::Release(seat, ticket, entries));

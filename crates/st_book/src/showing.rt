@@ -1,11 +1,12 @@
-ghost use Rattle.std.specs.Prelude.{◌≡◌, ◌≤◌, true, false, map, length, take, bytes_eq, option_map, Some, None, IfSome, IfNone, IsSomeAnd, slice_get, []};
-ghost use Rattle.std.specs.Option.{option_to_list};
-ghost use Rattle.st_book.specs.Effects.{info_at, infos_given, table_info_given};
+ghost use Rattle.std.specs.Prelude.{◌≡◌, ◌+◌, ◌<◌, ◌≤◌, ◌∷◌, ◌++◌, true, false, map, length, take, bytes_eq, option_map, Some, None, IfSome, IfNone, IsSomeAnd, slice_get, []};
+ghost use Rattle.st_wants.specs.Wants.{takes_table};
+ghost use Rattle.st_model.specs.Pieces.{info_at};
+ghost use Rattle.st_book.specs.Effects.{infos_given, table_info_given};
 
 use crate::part::InfoList;
 use st_model::{Board, Cell, Named};
 use st_units::{Name, Shared};
-use st_wants::{Mode, Want};
+use st_wants::Want;
 
 /// What a part shows, or nothing where a copy was refused.
 pub(crate) struct Showing<C: Cell, T: Board> {
@@ -43,16 +44,18 @@ pub(crate) fn copy_all<I: Drop>(infos: &[Shared<I>], list: &mut InfoList<I>) -> 
     true
 }
 
-/// Copies the info of a name, where there is one, and tells whether no copy was refused.
-fn copy_named<C: Cell>(infos: &[Shared<C::Info>], name: &Name, list: &mut InfoList<C::Info>) -> bool
-    requires empty { length list.old.items ≡ 0 }
-    requires room { 16 ≤ list.old.room }
-    ensures { result ≡ true → map C.shows list.new.items ≡ option_to_list (info_at name.now (map C.shows infos.now)) }
+/// Copies an info, where the want gets it, and tells whether the copy wasn't refused.
+fn copy_due<C: Cell>(want: &Want, info: &Shared<C::Info>, list: &mut InfoList<C::Info>) -> bool
+    requires { 0 < list.old.room }
+    ensures copied { result ≡ true → map C.shows list.new.items ≡ map C.shows list.old.items ++ infos_given want.now (C.shows info.now ∷ []) }
+    ensures due { result ≡ false → takes_table want.now ≡ false }
+    ensures len { length list.new.items ≤ length list.old.items + 1 }
+    ensures places { length list.old.items + list.old.room ≤ length list.new.items + list.new.room }
 {
-    let Some(i) = info_place::<C>(infos, name) else {
+    if !want.reads(info.value().name()) {
         return true;
-    };
-    match infos[i].copy() {
+    }
+    match info.copy() {
         Ok(copy) => {
             list.put(copy);
             true
@@ -66,25 +69,28 @@ fn copy_infos<C: Cell>(want: &Want, infos: &[Shared<C::Info>], list: &mut InfoLi
     requires empty { length list.old.items ≡ 0 }
     requires room { 16 ≤ list.old.room }
     requires few { length infos.now ≤ 16 }
-    ensures { result ≡ true → map C.shows list.new.items ≡ infos_given want.now (map C.shows infos.now) }
+    ensures copied { result ≡ true → map C.shows list.new.items ≡ infos_given want.now (map C.shows infos.now) }
+    ensures due { result ≡ false → takes_table want.now ≡ false }
 {
-    match want {
-        Want::Some(name, Mode::Read) => copy_named::<C>(infos, name, list),
-        Want::All(Mode::Read) => copy_all(infos, list),
-        Want::Some(_, Mode::Write) | Want::All(Mode::Write) => true,
+    for info in infos {
+        if !copy_due::<C>(want, info, list) {
+            return false;
+        }
     }
+    true
 }
 
 /// A copy of the table's info, where the want gets it; with whether it wasn't refused.
 fn copy_table_info<T: Board>(want: &Want, info: &Shared<T::Info>) -> (Option<Shared<T::Info>>, bool)
-    ensures { result.1 ≡ true → option_map T.shows result.0 ≡ table_info_given want.now (T.shows info.now) }
+    ensures copied { result.1 ≡ true → option_map T.shows result.0 ≡ table_info_given want.now (T.shows info.now) }
+    ensures due { result.1 ≡ false → takes_table want.now ≡ false }
 {
-    match want {
-        Want::All(Mode::Write) => (None, true),
-        Want::Some(_, _) | Want::All(Mode::Read) => match info.copy() {
-            Ok(copy) => (Some(copy), true),
-            Err(_) => (None, false),
-        },
+    if want.takes_table() {
+        return (None, true);
+    }
+    match info.copy() {
+        Ok(copy) => (Some(copy), true),
+        Err(_) => (None, false),
     }
 }
 
@@ -102,6 +108,7 @@ pub(crate) fn show_part<C: Cell, T: Board>(
     ensures table { result.short ≡ false → option_map T.shows result.table_info ≡ table_info_given want.now (T.shows table_info.now) }
     ensures no_infos { result.short ≡ true → result.infos.items ≡ [] }
     ensures no_table { result.short ≡ true → result.table_info ≡ None }
+    ensures due { result.short ≡ true → takes_table want.now ≡ false }
 {
     let mut infos_copied = list;
     let whole = copy_infos::<C>(want, infos, &mut infos_copied);

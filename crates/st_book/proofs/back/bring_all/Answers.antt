@@ -3,7 +3,7 @@ use Rattle.std.specs.List.{AllByRecursion, sum_by}
 use Rattle.std.proofs.lemmas.List.Sums.{sum_by-cons}
 use Rattle.std.proofs.lemmas.Map.Keys.{IsDistinct-head, IsDistinct-tail}
 use Rattle.st_model.specs.Shown.{pool_info}
-use Rattle.st_book.specs.Stands.{AreNamedApart}
+use Rattle.st_model.specs.Pieces.{AreNamedApart}
 use Rattle.st_book.proofs.Brought.{HaveInfos, first_rest, moved_on, have_still}
 use Rattle.st_book.proofs.back.bring_all.Goals as goal
 

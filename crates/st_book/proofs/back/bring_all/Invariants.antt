@@ -1,7 +1,7 @@
 use Rattle.std.proofs.Common.{◌≡◌, ◌+◌, ◌≤◌, ◌++◌, map, length}
 use Rattle.std.specs.List.{AllByRecursion, sum_by}
 use Rattle.st_model.specs.Shown.{pool_info}
-use Rattle.st_book.specs.Stands.{AreNamedApart}
+use Rattle.st_model.specs.Pieces.{AreNamedApart}
 use Rattle.st_book.proofs.Brought.{HaveInfos}
 use Rattle.st_book.proofs.back.bring_all.Given as goal
 

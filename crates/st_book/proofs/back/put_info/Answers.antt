@@ -2,7 +2,7 @@ use Rattle.std.proofs.Common.{◌≡◌, true, None, map, take, sym}
 use Rattle.std.specs.Prelude.{slice_get}
 use Rattle.std.specs.Str.{bytes_eq}
 use Rattle.st_grants.proofs.Sound.{some_and}
-use Rattle.st_book.specs.Effects.{info_at}
+use Rattle.st_model.specs.Pieces.{info_at}
 use Rattle.st_book.proofs.Finds.{put_in, none_in}
 use Rattle.st_book.proofs.back.put_info.Goals as goal
 

@@ -1,6 +1,6 @@
 use Rattle.std.proofs.Common.{◌≡◌, Some, map, sym, subst, ◌∙◌}
 use Rattle.st_model.specs.Shown.{pool_info}
-use Rattle.st_book.specs.Effects.{info_at}
+use Rattle.st_model.specs.Pieces.{info_at}
 use Rattle.st_book.proofs.Finds.{same_in, pool_info_name}
 use Rattle.st_book.proofs.back.renew.Goals as goal
 

@@ -1,7 +1,8 @@
 use Rattle.std.proofs.Common.{◌≡◌, true, None, map, take, sym, arith}
 use Rattle.std.proofs.lemmas.List.Edits.{length-remove}
 use Rattle.std.proofs.lemmas.Option.{slice_get_within}
-use Rattle.st_book.specs.Effects.{is_info_of, info_at}
+use Rattle.st_book.specs.Effects.{is_info_of}
+use Rattle.st_model.specs.Pieces.{info_at}
 use Rattle.st_book.proofs.Finds.{found_first, others_stay}
 use Rattle.st_book.proofs.back.take_info.Goals as goal
 

@@ -12,7 +12,7 @@ invariant_of-self-in-Ok-arrive g c =
     let made = c.in_default-make_room.ensures in
     let enough : 2 * length c.self.inside.grants.rows + 2 ≤ c.put.new.self.room = omega (arith, made.log_room, c.outstanding-tickets.ensures, c.put.ensures.room) in
     let beside : length c.make_room.new.spares.items ≤ vec_capacity c.make_room.new.lent - vec_len c.make_room.new.lent = omega (arith, made.lent_room) in
-    (rw c.in-Ok-arrive.ensures.ok (kept_arrived _ c.args.seat c.in-Ok.copy _ _ _ _ _ _ _ _ _ _ _ was.0 enough made.spares beside), was.1, was.2, was.3)
+    (rw c.in-Ok-arrive.ensures.ok (kept_arrived _ c.args.seat c.in-Ok.copy _ _ _ _ _ _ _ _ _ _ _ was.0 enough made.spares beside), was.1, was.2, was.3, was.4)
 
 pub invariant_of-self-in-Err-arrive : goal.invariant_of-self-in-Err-arrive
 invariant_of-self-in-Err-arrive g c =
@@ -23,7 +23,7 @@ invariant_of-self-in-Err-arrive g c =
     let enough : 2 * length c.self.inside.grants.rows ≤ c.make_room.new.log.room = omega (arith, made.log_room, c.outstanding-tickets.ensures) in
     let more : length c.self.inside.spares.items ≤ length c.take_at.new.self.items = omega (arith, made.spares, left) in
     let beside : length c.self.inside.spares.items ≤ vec_capacity c.make_room.new.lent - vec_len c.make_room.new.lent = omega (arith, made.lent_room, made.spares) in
-    (rw c.in-Err-arrive.ensures.err (kept_more _ _ _ _ _ _ _ _ _ _ _ _ was.0 enough more beside), was.1, was.2, was.3)
+    (rw c.in-Err-arrive.ensures.err (kept_more _ _ _ _ _ _ _ _ _ _ _ _ was.0 enough more beside), was.1, was.2, was.3, was.4)
 
 pub returns-clause-stands : goal.returns-clause-stands
 returns-clause-stands g c = λ s base h.

@@ -5,7 +5,8 @@ use Rattle.std.proofs.lemmas.List.Edits.{length-remove}
 use Rattle.st_wants.specs.declared.row.LockRow.{LockRow}
 use Rattle.st_wants.specs.Lock.{row_at}
 use Rattle.st_grants.proofs.Sound.{some_and}
-use Rattle.st_book.specs.Effects.{cells_given, table_left, table_given, takes_table, infos_given, table_info_given}
+use Rattle.st_book.specs.Effects.{cells_given, table_left, table_given, infos_given, table_info_given}
+use Rattle.st_wants.specs.Wants.{takes_table}
 use Rattle.st_book.specs.View.{TableView, or_zero}
 use Rattle.st_book.proofs.Roomed.{kept_granted, waiting_some, left_there, left_viewed, given_viewed, left_and_given, left_kept}
 use Rattle.st_book.proofs.Standing.{stands_granted, part_given, part_shown, lent_number}
@@ -45,6 +46,7 @@ invariant_of-self g c =
       was.1,
       (c.take_cells-cells.ensures.kept was.2).1,
       rw table (left_kept g.T.Board.is_kept own.0.want c.self.inside.table was.3),
+      c.take_cells-cells.ensures.few,
     )
 
 pub returns-clause-stands : goal.returns-clause-stands
@@ -81,6 +83,12 @@ returns-clause-shown g c = λ whole s base h.
     let infos : map g.C.Cell.shows c.show_part-shown.result.infos.items ≡ infos_given own.0.want (map g.C.Cell.shows c.self.inside.infos.items) = rw (want, c.items.ensures) at (c.show_part-shown.ensures.infos whole) in
     let table : option_map g.T.Board.shows c.show_part-shown.result.table_info ≡ table_info_given own.0.want (g.T.Board.shows c.self.inside.table_info) = rw want at (c.show_part-shown.ensures.table whole) in
     rw (← c.self.view_is) (rw (own.1, infos, table) (part_shown s base _ own.0.want h'))
+
+pub returns-clause-due : goal.returns-clause-due
+returns-clause-due g c = λ short.
+    let own = some_and (λ (r : LockRow). r.live ≡ false) (row_at c.args.ticket c.self.inside.grants.rows) (rw (← c.self.view_is) at c.requires) in
+    let want : c.want-want.result.now ≡ own.0.want = rw own.1 at c.want-want.ensures in
+    rw (← c.self.view_is) (rw own.1 (rw want at (c.show_part-shown.ensures.due short)))
 
 pub returns-clause-lent : goal.returns-clause-lent
 returns-clause-lent g c = λ s base h k.

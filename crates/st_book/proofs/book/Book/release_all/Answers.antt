@@ -2,7 +2,7 @@ use Rattle.std.proofs.Common.{◌≡◌, ◌-◌, ◌≤◌, true, vec_len, vec_
 use Rattle.st_wants.specs.declared.row.LockRow.{LockRow}
 use Rattle.st_wants.specs.Lock.{row_at}
 use Rattle.st_grants.proofs.Sound.{some_and}
-use Rattle.st_book.specs.Effects.{takes_table}
+use Rattle.st_wants.specs.Wants.{takes_table}
 use Rattle.st_book.proofs.Roomed.{kept_released, placed_back}
 use Rattle.st_book.proofs.book.Book.release_all.Goals as goal
 
@@ -18,6 +18,7 @@ invariant_of-self g c =
       c.bring_all.ensures.empty,
       c.bring_all.ensures.test was.2 c.requires.kept,
       c.renew_table.ensures.test c.requires.table_kept,
+      c.bring_all.ensures.few_cells,
     )
 
 pub returns-clause-infos : goal.returns-clause-infos
