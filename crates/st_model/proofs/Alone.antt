@@ -4,7 +4,7 @@ use Rattle.std.specs.List.{find}
 use Rattle.st_units.specs.declared.rows.DevRow.{DevRow}
 use Rattle.st_units.specs.declared.cause.Cause.TheVariants.{NameInUse}
 use Rattle.st_model.specs.declared.call.Call.{Call}
-use Rattle.st_model.specs.declared.call.Call.TheVariants.{CreatePool, RenamePool}
+use Rattle.st_model.specs.declared.call.Call.TheVariants.{CreatePool, RenamePool, DestroyPool}
 use Rattle.st_model.specs.declared.reply.Given.TheVariants.{Changed}
 use Rattle.st_model.specs.declared.reply.Reply.{Reply}
 use Rattle.st_model.specs.declared.state.EngineState.{EngineState}
@@ -18,6 +18,7 @@ use Rattle.st_model.specs.Local.{Outcome}
 use Rattle.st_model.specs.Parts.{own}
 use Rattle.st_model.specs.Plain.{plain}
 use Rattle.st_model.specs.Checks.{not_up, worn}
+use Rattle.st_model.specs.steps.DestroyPool.{destroy_answers, destroy_found, destroy_pool}
 use Rattle.st_model.specs.steps.RenamePool.{rename_pool, rename_found, rename_answers}
 use Rattle.st_model.proofs.Among.{IsPlaced, up, self, own_before, any_before, unheld_before}
 
@@ -93,3 +94,21 @@ rename-kind name new s p placed on flight =
     let none : bytes_eq name new ≡ false → is_some (holder new before.pools) ≡ is_some (holder new only.pools) = λ ne.
     ap is_some (unheld_before s.devices p new s.pools placed.beside held (free ne)) ∙ sym (ap is_some (ap (λ (b : Bool). cond b (Some (up p)) None) (free ne))) in
     same_reply (rename_pool name new before) (rename_pool name new only) (ap (λ o. (rename_found before name new o).0) first ∙ rename_reply name new before only (up p) none ∙ sym (ap (λ o. (rename_found only name new o).0) second))
+
+-- a destroying
+destroy_reply : (s t : EngineState) (p : PoolState) → (destroy_found s (Some p)).0 ≡ (destroy_found t (Some p)).0
+destroy_reply s t p = here (first_answer (destroy_answers p))
+  where
+    here : (a : Option Reply) → (unless_answered a s (accepted (Changed true (Some (Rattle.st_model.specs.declared.reply.Identity.TheVariants.Pool p.serial))), record s { pools = all_but p.serial s.pools })).0
+        ≡ (unless_answered a t (accepted (Changed true (Some (Rattle.st_model.specs.declared.reply.Identity.TheVariants.Pool p.serial))), record t { pools = all_but p.serial t.pools })).0
+    here None = refl
+    here (Some r) = refl
+
+pub destroy-kind : (name : Text) (s : EngineState) (p : PoolState) → IsPlaced s.devices s.pools p → name ≡ p.name → AcceptedAlike (plain (state_before s p (DestroyPool name)) (DestroyPool name)) (plain (alone_before s.devices p (DestroyPool name)) (DestroyPool name))
+unfolding destroy_pool
+destroy-kind name s p placed on =
+    let before : EngineState = record s { pools = map (Rattle.st_model.specs.Flight.started_as p.serial) s.pools } in
+    let only : EngineState = record { pools = up p ∷ []; devices = s.devices; next = 0 } in
+    let first : find (Rattle.st_model.specs.Look.is_called name) before.pools ≡ Some (up p) = rw on (any_before s.devices p s.pools placed.beside placed.among) in
+    let second : find (Rattle.st_model.specs.Look.is_called name) only.pools ≡ Some (up p) = rw (on, self p.name) refl in
+    same_reply (destroy_pool name before) (destroy_pool name only) (ap (λ o. (destroy_found before o).0) first ∙ destroy_reply before only (up p) ∙ sym (ap (λ o. (destroy_found only o).0) second))

@@ -12,8 +12,11 @@ use Rattle.st_model.specs.ValidPool.{EachPair, IsValidPool}
 use Rattle.st_model.specs.Flight.{state_before}
 use Rattle.st_model.specs.Plain.{plain}
 use Rattle.st_model.specs.steps.CreateFilesystems.{create_filesystems}
+use Rattle.st_model.specs.steps.RenameFilesystem.{rename_filesystem}
 use Rattle.st_model.specs.steps.SetFsLimit.{set_fs_limit}
-use Rattle.st_model.proofs.Alone.{alone_before, IsAloneFlight, AcceptedAlike, doing-kind, rename-kind}
+use Rattle.st_model.specs.steps.SetOverprovisioning.{set_overprovisioning}
+use Rattle.st_model.specs.steps.SetSizeLimit.{set_size_limit}
+use Rattle.st_model.proofs.Alone.{alone_before, IsAloneFlight, AcceptedAlike, doing-kind, rename-kind, destroy-kind}
 use Rattle.st_model.proofs.Among.{IsPlaced, all_placed, All-with}
 use Rattle.st_model.proofs.CreateKind.{create-kind}
 
@@ -29,15 +32,15 @@ kind (PoolReport pool) s p placed there count on flight = absurd on
 kind EngineStateReport s p placed there count on flight = absurd on
 kind PowerCycle s p placed there count on flight = absurd on
 -- those that aren't built yet
-kind (DestroyPool name) s p placed there count on flight = (λ h. h, λ h. h)
+kind (DestroyPool name) s p placed there count on flight = destroy-kind name s p placed on
 kind (AddDataDevs pool devices) s p placed there count on flight = (λ h. h, λ h. h)
 kind (InitCache pool devices) s p placed there count on flight = (λ h. h, λ h. h)
 kind (AddCacheDevs pool devices) s p placed there count on flight = (λ h. h, λ h. h)
 kind (DestroyFilesystems pool names) s p placed there count on flight = (λ h. h, λ h. h)
 kind (SnapshotFilesystem pool origin new) s p placed there count on flight = (λ h. h, λ h. h)
-kind (RenameFilesystem pool fs new) s p placed there count on flight = (λ h. h, λ h. h)
-kind (SetSizeLimit pool fs limit) s p placed there count on flight = (λ h. h, λ h. h)
-kind (SetOverprovisioning pool value) s p placed there count on flight = (λ h. h, λ h. h)
+kind (RenameFilesystem pool fs new) s p placed there count on flight = doing-kind s p pool (rename_filesystem fs new) placed on
+kind (SetSizeLimit pool fs limit) s p placed there count on flight = doing-kind s p pool (set_size_limit fs limit) placed on
+kind (SetOverprovisioning pool value) s p placed there count on flight = doing-kind s p pool (set_overprovisioning value) placed on
 kind (FsRead pool fs sector sectors) s p placed there count on flight = (λ h. h, λ h. h)
 kind (FsWrite pool fs sector payload) s p placed there count on flight = (λ h. h, λ h. h)
 kind (Check pool) s p placed there count on flight = (λ h. h, λ h. h)

@@ -1,30 +1,42 @@
 -- a step keeps validity: by what the call met, once, and then a line for each call
-use Rattle.std.proofs.Common.{◌≡◌, ℕ, List, Bool, true, false, Option, Some, None, refl}
+use Rattle.std.proofs.Common.{◌≡◌, ℕ, List, Bool, true, false, Option, Some, None, refl, subst, [], sym, ◌∙◌, ◌==◌, ◌&&◌}
 use Rattle.st_units.specs.declared.cause.Cause.TheVariants.{DeviceFault}
 use Rattle.st_units.specs.declared.rows.FsSpec.{FsSpec}
 use Rattle.st_model.specs.declared.call.Call.{Call}
-use Rattle.st_model.specs.declared.call.Call.TheVariants.{StopPool, RenamePool, CreateFilesystems, SetFsLimit, PoolReport, EngineStateReport}
+use Rattle.st_model.specs.declared.call.Call.TheVariants.{DestroyPool, StopPool, RenamePool, CreateFilesystems, RenameFilesystem, SetSizeLimit, SetFsLimit, SetOverprovisioning, PoolReport, PoolReports, EngineStateReport, PowerCycle}
 use Rattle.st_model.specs.declared.entry.Env.{Env}
 use Rattle.st_model.specs.declared.entry.Env.TheVariants.{Plain, NoMem, FaultRead, FaultWrite, After, Before}
 use Rattle.st_model.specs.declared.state.EngineState.{EngineState}
+use Rattle.st_model.specs.declared.state.PoolState.{PoolState}
 use Rattle.st_model.specs.Answer.{refused}
-use Rattle.st_model.specs.Look.{Text}
+use Rattle.st_model.specs.Look.{Text, devices_taken, name_given}
+use Rattle.st_model.specs.Sound.{are_few}
+use Rattle.st_units.specs.declared.rows.DevRow.{DevRow}
 use Rattle.st_model.specs.steps.EngineStateReport.{report_plain}
 use Rattle.st_model.specs.Checks.{down}
 use Rattle.st_model.specs.Flight.{in_flight}
-use Rattle.st_model.specs.Lifted.{changed}
+use Rattle.st_model.specs.Lifted.{Doing, IsWithin, changed, on_pool}
 use Rattle.st_model.specs.Local.{where_so}
-use Rattle.st_model.specs.Step.{wrote, fault_on, usual, outcome}
+use Rattle.st_model.specs.Step.{wrote, fault_on, usual, outcome, is_changed, changes}
 use Rattle.st_model.specs.Plain.{plain}
-use Rattle.st_model.specs.Valid.{IsValid}
+use Rattle.st_model.specs.Valid.{IsOn, IsValid}
+use Rattle.st_model.specs.ValidPool.{IsBefore, IsHalted, IsWhole}
+use Rattle.st_model.specs.steps.PoolReports.{pool_reports}
+use Rattle.st_model.specs.steps.RenameFilesystem.{rename_filesystem}
+use Rattle.st_model.specs.steps.SetOverprovisioning.{set_overprovisioning}
+use Rattle.st_model.specs.steps.SetSizeLimit.{set_size_limit}
 use Rattle.st_model.specs.steps.PoolReport.{pool_report}
-use Rattle.st_model.proofs.Kept.{doing-valid}
-use Rattle.st_model.proofs.LocalCalls.{report-within}
+use Rattle.st_model.proofs.Alone.{alone_before}
+use Rattle.st_model.proofs.Among.{up}
+use Rattle.st_model.proofs.Kept.{alone_of, doing-valid, failed-valid}
+use Rattle.st_model.proofs.LocalCalls.{overprovisioning-within, rename_fs-within, report-within, size_limit-within}
+use Rattle.st_model.proofs.ValidDestroy.{destroy-valid, destroy_failed-valid}
+use Rattle.st_model.proofs.ValidFields.{overprovisioning-again, overprovisioning-whole, rename_filesystem-again, rename_filesystem-whole, size_limit-again, size_limit-whole}
 use Rattle.st_model.proofs.ValidCreateFs.{create_fs-valid, create_fs_failed-valid}
 use Rattle.st_model.proofs.ValidLimit.{limit-valid, limit_failed-valid}
 use Rattle.st_model.proofs.ValidRename.{rename-valid}
 use Rattle.st_model.proofs.ValidRenameFailed.{rename_failed-valid}
-use Rattle.st_model.proofs.ValidStart.{IsValidAfter, where-valid, stop-valid}
+use Rattle.st_model.proofs.ValidStart.{IsValidAfter, cycle-valid, where-valid, stop-valid}
 
 pub where-if : (b : Bool) (after : _ × EngineState) → (b ≡ true → IsValid after.1) → IsValidAfter (where_so b after)
 where-if true after h = h refl
@@ -72,3 +84,85 @@ report-keeps s pool env v = usual-valid s (PoolReport pool) env v (report_pool-v
 
 pub engine-keeps : (s : EngineState) (env : Env) → IsValid s → IsValidAfter (outcome s EngineStateReport env)
 engine-keeps s env v = usual-valid s EngineStateReport env v (report-valid s v) tt
+
+-- a call within a pool that takes no device and gives no name: what it owes
+pub record IsWithinCall (pool : Text) (call : Call) (f : Doing) : Type 0 where
+  pub of_plain : (s : EngineState) → plain s call ≡ Some (on_pool pool f s)
+  pub of_outcome : (s : EngineState) (env : Env) → outcome s call env ≡ usual s call env
+  pub of_flight : (s : EngineState) → in_flight s call ≡ Some (pool, call)
+  pub of_wrote : (s : EngineState) → wrote s call ≡ is_changed (plain s call)
+  pub takes : devices_taken call ≡ []
+  pub gives : name_given call ≡ None
+  pub before : (p : PoolState) → IsHalted (down call p) → IsBefore (down call p) call
+  pub on : (n : Text) → pool ≡ n → IsOn n call
+  pub alone : (rows : List DevRow) (p : PoolState) → plain (alone_before rows (down call p) call) call ≡ Some (on_pool pool f (alone_of rows (down call p)))
+  pub within : IsWithin f
+  pub whole : (p : PoolState) → IsWhole p → IsWhole (f p).1
+  pub again : (p : PoolState) → (((f p).0.code == 0) && changes (f p).0.result) ≡ true → (f (up (down call p))).0.code ≡ 0
+
+pub within-keeps : (pool : Text) (call : Call) (f : Doing) → IsWithinCall pool call f → (s : EngineState) (env : Env) → IsValid s → IsValidAfter (outcome s call env)
+within-keeps pool call f c s env v =
+    subst IsValidAfter (sym (c.of_outcome s env))
+    (usual-valid s call env v (subst IsValidAfter (sym (c.of_plain s)) (doing-valid s pool f c.within c.whole v))
+    (subst (λ o. IsValidFault s o (wrote s call)) (sym (c.of_flight s)) (λ h. failed-valid s pool call f (c.of_plain s) c.takes c.gives c.before c.on c.alone c.again (sym (c.of_wrote s) ∙ h) v)))
+
+pub rename_fs-call : (pool fs new : Text) → IsWithinCall pool (RenameFilesystem pool fs new) (rename_filesystem fs new)
+rename_fs-call pool fs new = record {
+  of_plain = λ s. refl;
+  of_outcome = λ s env. refl;
+  of_flight = λ s. refl;
+  of_wrote = λ s. refl;
+  takes = refl;
+  gives = refl;
+  before = λ p h. h;
+  on = λ n e. e;
+  alone = λ rows p. refl;
+  within = rename_fs-within fs new;
+  whole = rename_filesystem-whole fs new;
+  again = λ p. rename_filesystem-again fs new p (up (down (RenameFilesystem pool fs new) p)) refl refl;
+}
+
+pub size_limit-call : (pool fs : Text) (limit : Option ℕ) → IsWithinCall pool (SetSizeLimit pool fs limit) (set_size_limit fs limit)
+size_limit-call pool fs limit = record {
+  of_plain = λ s. refl;
+  of_outcome = λ s env. refl;
+  of_flight = λ s. refl;
+  of_wrote = λ s. refl;
+  takes = refl;
+  gives = refl;
+  before = λ p h. h;
+  on = λ n e. e;
+  alone = λ rows p. refl;
+  within = size_limit-within fs limit;
+  whole = size_limit-whole fs limit;
+  again = λ p. size_limit-again fs limit p (up (down (SetSizeLimit pool fs limit) p)) refl refl;
+}
+
+pub overprovisioning-call : (pool : Text) (value : Bool) → IsWithinCall pool (SetOverprovisioning pool value) (set_overprovisioning value)
+overprovisioning-call pool value = record {
+  of_plain = λ s. refl;
+  of_outcome = λ s env. refl;
+  of_flight = λ s. refl;
+  of_wrote = λ s. refl;
+  takes = refl;
+  gives = refl;
+  before = λ p h. h;
+  on = λ n e. e;
+  alone = λ rows p. refl;
+  within = overprovisioning-within value;
+  whole = overprovisioning-whole value;
+  again = λ p. overprovisioning-again value p (up (down (SetOverprovisioning pool value) p)) refl;
+}
+
+reports-valid : (s : EngineState) (pools : List Text) → IsValid s → IsValid (pool_reports pools s).1
+unfolding pool_reports
+reports-valid s pools v = v
+
+pub reports-keeps : (s : EngineState) (pools : List Text) (env : Env) → IsValid s → IsValidAfter (outcome s (PoolReports pools) env)
+reports-keeps s pools env v = usual-valid s (PoolReports pools) env v (where-valid (are_few pools) (pool_reports pools s) (reports-valid s pools v)) tt
+
+pub cycle-keeps : (s : EngineState) (env : Env) → IsValid s → IsValidAfter (outcome s PowerCycle env)
+cycle-keeps s env v = usual-valid s PowerCycle env v (cycle-valid s v) tt
+
+pub destroy-keeps : (s : EngineState) (name : Text) (env : Env) → IsValid s → IsValidAfter (outcome s (DestroyPool name) env)
+destroy-keeps s name env v = usual-valid s (DestroyPool name) env v (destroy-valid s name v) (λ h. destroy_failed-valid s name h v)

@@ -66,7 +66,7 @@ found_by-law s p after v placed w next rows h = here (with_own_serial p.serial a
         started_so-valid s p q v placed own.0 (found-holds (IsGood s.next s.devices) (λ (x : PoolState). x.serial == p.serial) after.pools q good e) own.1
 
 -- a rename
-unchanged : (name : Text) (ps : List PoolState) → map (one_changed name (λ x. x)) ps ≡ ps
+pub unchanged : (name : Text) (ps : List PoolState) → map (one_changed name (λ x. x)) ps ≡ ps
 unchanged name [] = refl
 unchanged name (x ∷ ps) = rw (unchanged name ps) (here (runs_as name x))
   where

@@ -136,7 +136,7 @@ doing-valid s name f within whole v =
     changed-valid s name (λ p. (f p).1) v (within_shares f within) (λ p o good. up_good s.next s.devices p (f p).1 o.is_up good (within p) (whole p))
 
 -- a write that failed in a call that takes no device and gives no name
-down_shares : (call : Call) → devices_taken call ≡ [] → name_given call ≡ None → (p : PoolState) → p.mode ≡ Up → SharesAs p (down call p)
+pub down_shares : (call : Call) → devices_taken call ≡ [] → name_given call ≡ None → (p : PoolState) → p.mode ≡ Up → SharesAs p (down call p)
 down_shares call none new p up = record { serial = refl; names = λ n. rw (new, up) refl; devices = λ path. rw (none, up) refl }
 
 pub down_good : (next : ℕ) (rows : List DevRow) (p : PoolState) (call : Call) → p.mode ≡ Up → IsGood next rows p → IsOn p.name call → devices_taken call ≡ [] → (IsHalted (down call p) → IsBefore (down call p) call)

@@ -23,10 +23,13 @@ pub mod Reading
 pub mod Replaced
 pub mod Replacing
 pub mod Reports
+pub mod Rowed
 pub mod StartKeeps
 pub mod StepLocal
 pub mod Totals
 pub mod ValidCreateFs
+pub mod ValidDestroy
+pub mod ValidFields
 pub mod ValidLimit
 pub mod ValidMaking
 pub mod ValidRename

@@ -1,7 +1,7 @@
 -- each call within one pool
 use Rattle.std.proofs.Common.{◌≡◌, ℕ, List, [], ◌∷◌, Bool, false, Option, Some, None, refl, sym, ◌∙◌, subst}
 use Rattle.st_units.specs.declared.rows.FsSpec.{FsSpec}
-use Rattle.st_wants.specs.Names.{is_named}
+use Rattle.st_wants.specs.Names.{is_named, names_of}
 use Rattle.st_model.specs.declared.call.Call.{Call}
 use Rattle.st_model.specs.declared.call.Call.TheVariants.{CreatePool, DestroyPool, StopPool, StartPool, RenamePool, AddDataDevs, InitCache, AddCacheDevs, CreateFilesystems, DestroyFilesystems, SnapshotFilesystem, RenameFilesystem, SetSizeLimit, SetFsLimit, SetOverprovisioning, FsWrite, FsRead, Check, PoolReport, PoolReports, EngineStateReport, SetMerge, PowerCycle}
 use Rattle.st_model.specs.declared.entry.Env.{Env}
@@ -18,8 +18,12 @@ use Rattle.st_model.specs.Step.{touches, usual, wrote}
 use Rattle.st_model.specs.steps.CreateFilesystems.{create_filesystems, to_create, fs_answers}
 use Rattle.st_model.specs.steps.PoolReport.{pool_report}
 use Rattle.st_model.specs.steps.SetFsLimit.{set_fs_limit, limit_answers}
-use Rattle.st_model.proofs.Inner.{IsInner, IsQuiet, only, unless_within, usual-local, by_doing}
+use Rattle.st_model.proofs.Inner.{IsInner, IsQuiet, only, fs_within, same_changed, unless_within, usual-local, by_doing}
 use Rattle.st_model.proofs.Lifting.{named_self}
+use Rattle.st_model.proofs.Reports.{reports-local}
+use Rattle.st_model.specs.steps.RenameFilesystem.{rename_filesystem, rename_fs, rename_fs_answers}
+use Rattle.st_model.specs.steps.SetOverprovisioning.{overprovisioning_answers, set_overprovisioning}
+use Rattle.st_model.specs.steps.SetSizeLimit.{limit_fs, set_size_limit, size_limit_answers}
 
 pub create-within : (specs : List FsSpec) → IsWithin (create_filesystems specs)
 unfolding create_filesystems
@@ -32,6 +36,18 @@ limit-within limit p = unless_within (first_answer (limit_answers limit p)) p _ 
 pub report-within : IsWithin pool_report
 unfolding pool_report
 report-within p = record { serial = refl; name = refl; mode = refl; devices = refl }
+
+pub rename_fs-within : (name new : Text) → IsWithin (rename_filesystem name new)
+unfolding rename_filesystem
+rename_fs-within name new = fs_within (rename_fs new) (λ fs p. unless_within (first_answer (rename_fs_answers new fs p)) p _ (record { serial = refl; name = refl; mode = refl; devices = refl })) name
+
+pub size_limit-within : (name : Text) (limit : Option ℕ) → IsWithin (set_size_limit name limit)
+unfolding set_size_limit
+size_limit-within name limit = fs_within (limit_fs limit) (λ fs p. unless_within (first_answer (size_limit_answers limit fs p)) p _ (record { serial = refl; name = refl; mode = refl; devices = refl })) name
+
+pub overprovisioning-within : (value : Bool) → IsWithin (set_overprovisioning value)
+unfolding set_overprovisioning
+overprovisioning-within value p = unless_within (first_answer (overprovisioning_answers value p)) p _ (record { serial = refl; name = refl; mode = refl; devices = refl })
 
 create-inner : (pool : Text) (specs : List FsSpec) → IsInner (only pool) (CreateFilesystems pool specs)
 create-inner pool specs = by_doing pool _ (create_filesystems specs) _ (λ s. refl) (create-within specs) (λ s. refl) (named_self pool, (refl, refl)) (λ s t a. refl) (λ s. refl)
@@ -58,20 +74,26 @@ unbuilt pool call is flight in_flight quiet touches wrote = record {
 inner_at : (pool : Text) (names : List Text) (call : Call) (env : Env) → pool ∷ [] ≡ names → IsInner (only pool) call → IsLocal (is_named names) (λ s. usual s call env)
 inner_at pool names call env e h = subst (λ (ns : List Text). IsLocal (is_named ns) (λ s. usual s call env)) e (usual-local (only pool) call env h)
 
-unbuilt_reports : (is_in : Text → Bool) (pools : List Text) → IsInner is_in (PoolReports pools)
-unbuilt_reports is_in pools = record {
-  plain = record { alike = λ s t a. tt; others = λ s. tt };
-  touches = λ s t a. refl;
-  wrote = λ s t a. refl;
-  flight = None;
-  in_flight = λ s. refl;
-  quiet = tt;
-}
+reports-inner : (pools : List Text) → IsInner (is_named (names_of pools)) (PoolReports pools)
+reports-inner pools =
+    let local = reports-local pools in
+    record {
+      plain = local;
+      touches = λ s t a. refl;
+      wrote = λ s t a. same_changed (is_named (names_of pools)) _ _ (local.alike s t a);
+      flight = None;
+      in_flight = λ s. refl;
+      quiet = tt;
+    }
 
 pub outcome-local : Locality
 outcome-local (CreateFilesystems pool specs) env names mode h = inner_at pool names _ env (cc) (create-inner pool specs)
 outcome-local (SetFsLimit pool limit) env names mode h = inner_at pool names _ env (cc) (limit-inner pool limit)
 outcome-local (PoolReport pool) env names mode h = inner_at pool names _ env (cc) (report-inner pool)
+outcome-local (RenameFilesystem pool fs new) env names mode h = inner_at pool names _ env (cc) (by_doing pool (RenameFilesystem pool fs new) (rename_filesystem fs new) (Some (pool, RenameFilesystem pool fs new)) (λ s. refl) (rename_fs-within fs new) (λ s. refl) (named_self pool, (refl, refl)) (λ s t a. refl) (λ s. refl))
+outcome-local (SetSizeLimit pool fs limit) env names mode h = inner_at pool names _ env (cc) (by_doing pool (SetSizeLimit pool fs limit) (set_size_limit fs limit) (Some (pool, SetSizeLimit pool fs limit)) (λ s. refl) (size_limit-within fs limit) (λ s. refl) (named_self pool, (refl, refl)) (λ s t a. refl) (λ s. refl))
+outcome-local (SetOverprovisioning pool value) env names mode h = inner_at pool names _ env (cc) (by_doing pool (SetOverprovisioning pool value) (set_overprovisioning value) (Some (pool, SetOverprovisioning pool value)) (λ s. refl) (overprovisioning-within value) (λ s. refl) (named_self pool, (refl, refl)) (λ s t a. refl) (λ s. refl))
+outcome-local (PoolReports pools) env names mode h = subst (λ (ns : List Text). IsLocal (is_named ns) (λ s. usual s (PoolReports pools) env)) (cc) (usual-local (is_named (names_of pools)) (PoolReports pools) env (reports-inner pools))
 outcome-local (CreatePool p devices) env names mode h = absurd cc
 outcome-local (DestroyPool p) env names mode h = absurd cc
 outcome-local (StopPool p) env names mode h = absurd cc
@@ -84,11 +106,7 @@ outcome-local EngineStateReport env names mode h = absurd cc
 outcome-local PowerCycle env names mode h = absurd cc
 outcome-local (DestroyFilesystems pool fs) env names mode h = inner_at pool names _ env (cc) (unbuilt pool (DestroyFilesystems pool fs) (λ s. refl) (Some (pool, DestroyFilesystems pool fs)) (λ s. refl) (named_self pool, (refl, refl)) (λ s t a. refl) (λ s. refl))
 outcome-local (SnapshotFilesystem pool origin new) env names mode h = inner_at pool names _ env (cc) (unbuilt pool (SnapshotFilesystem pool origin new) (λ s. refl) (Some (pool, SnapshotFilesystem pool origin new)) (λ s. refl) (named_self pool, (refl, refl)) (λ s t a. refl) (λ s. refl))
-outcome-local (RenameFilesystem pool fs new) env names mode h = inner_at pool names _ env (cc) (unbuilt pool (RenameFilesystem pool fs new) (λ s. refl) (Some (pool, RenameFilesystem pool fs new)) (λ s. refl) (named_self pool, (refl, refl)) (λ s t a. refl) (λ s. refl))
-outcome-local (SetSizeLimit pool fs limit) env names mode h = inner_at pool names _ env (cc) (unbuilt pool (SetSizeLimit pool fs limit) (λ s. refl) (Some (pool, SetSizeLimit pool fs limit)) (λ s. refl) (named_self pool, (refl, refl)) (λ s t a. refl) (λ s. refl))
-outcome-local (SetOverprovisioning pool value) env names mode h = inner_at pool names _ env (cc) (unbuilt pool (SetOverprovisioning pool value) (λ s. refl) (Some (pool, SetOverprovisioning pool value)) (λ s. refl) (named_self pool, (refl, refl)) (λ s t a. refl) (λ s. refl))
 outcome-local (FsWrite pool fs sector payload) env names mode h = inner_at pool names _ env (cc) (unbuilt pool (FsWrite pool fs sector payload) (λ s. refl) (Some (pool, FsWrite pool fs sector payload)) (λ s. refl) (named_self pool, (refl, refl)) (λ s t a. refl) (λ s. refl))
 outcome-local (FsRead pool fs sector sectors) env names mode h = inner_at pool names _ env (cc) (unbuilt pool (FsRead pool fs sector sectors) (λ s. refl) (Some (pool, FsRead pool fs sector sectors)) (λ s. refl) (named_self pool, (refl, refl)) (λ s t a. refl) (λ s. refl))
 outcome-local (Check pool) env names mode h = inner_at pool names _ env (cc) (unbuilt pool (Check pool) (λ s. refl) (Some (pool, Check pool)) (λ s. refl) (named_self pool, (refl, refl)) (λ s t a. refl) (λ s. refl))
 outcome-local (SetMerge pool fs value) env names mode h = inner_at pool names _ env (cc) (unbuilt pool (SetMerge pool fs value) (λ s. refl) (Some (pool, SetMerge pool fs value)) (λ s. refl) (named_self pool, (refl, refl)) (λ s t a. refl) (λ s. refl))
-outcome-local (PoolReports pools) env names mode h = usual-local (is_named names) (PoolReports pools) env (unbuilt_reports (is_named names) pools)

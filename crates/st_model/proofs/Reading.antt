@@ -18,6 +18,8 @@ use Rattle.st_model.specs.Plain.{plain}
 use Rattle.st_model.specs.Step.{usual, is_ok, touches}
 use Rattle.st_model.specs.steps.EngineStateReport.{report_plain}
 use Rattle.st_model.specs.steps.PoolReport.{pool_report}
+use Rattle.st_model.specs.steps.PoolReports.{pool_reports}
+use Rattle.st_model.specs.Sound.{are_few}
 
 kept_where : (b : Bool) (r q : Reply) (s : EngineState) → (unwrap_or (where_so b (r, s)) (q, s)).1 ≡ s
 kept_where true r q s = refl
@@ -44,13 +46,18 @@ pool_kept : (s : EngineState) (pool : Text) → (on_pool pool pool_report s).1 �
 unfolding on_pool pool_report
 pool_kept s pool = ap (λ (l : List PoolState). record s { pools = l }) (same_pools pool s.pools)
 
+reports_kept : (s : EngineState) (pools : List Text) (b : Bool) → (unwrap_or (where_so b (pool_reports pools s)) (refused OutOfMemory, s)).1 ≡ s
+unfolding pool_reports
+reports_kept s pools true = refl
+reports_kept s pools false = refl
+
 engine_kept : (s : EngineState) → (report_plain s).1 ≡ s
 unfolding report_plain
 engine_kept s = refl
 
 pub reads-keep : ReadsKeep
 reads-keep s (PoolReport pool) env h = usual_keeps s (PoolReport pool) env (refused OutOfMemory) refl (pool_kept s pool)
-reads-keep s (PoolReports pools) env h = usual_keeps s (PoolReports pools) env (refused OutOfMemory) refl refl
+reads-keep s (PoolReports pools) env h = usual_keeps s (PoolReports pools) env (refused OutOfMemory) refl (reports_kept s pools (are_few pools))
 reads-keep s EngineStateReport env h = usual_keeps s EngineStateReport env (refused OutOfMemory) refl (engine_kept s)
 reads-keep s (CreatePool p devices) env h = absurd cc
 reads-keep s (DestroyPool p) env h = absurd cc

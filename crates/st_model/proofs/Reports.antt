@@ -1,20 +1,20 @@
 -- a call that only reads pools of several names is local to them
-use Rattle.std.proofs.Common.{◌≡◌, List, [], ◌∷◌, Bool, true, false, ◌||◌, map, Option, Some, bytes_eq, refl, ap}
+use Rattle.std.proofs.Common.{◌≡◌, List, [], ◌∷◌, Bool, true, false, ◌||◌, map, Option, Some, bytes_eq, refl, ap, ◌∙◌}
 use Rattle.std.specs.List.{AllByRecursion}
 use Rattle.std.proofs.lemmas.Slice.Eq.{bytes_eq-Decides}
 use Rattle.st_model.specs.declared.reply.Reply.{Reply}
 use Rattle.st_model.specs.declared.state.EngineState.{EngineState}
 use Rattle.st_model.specs.declared.state.PoolState.{PoolState}
-use Rattle.st_model.specs.Look.{Text, has_path}
-use Rattle.st_model.proofs.Lists.{All-weaker}
+use Rattle.st_model.specs.Look.{Text, distinct, has_path}
+use Rattle.st_model.proofs.Lists.{All-distinct, All-weaker}
 use Rattle.st_model.specs.Lifted.{is_known}
-use Rattle.st_model.specs.Local.{IsLocal}
+use Rattle.st_model.specs.Local.{AreAlike, IsLocal, Leaves, LeavesIfAny, where_so}
+use Rattle.st_model.specs.Sound.{are_few}
+use Rattle.st_model.specs.steps.PoolReports.{pool_reports, reports, seen}
+use Rattle.st_wants.proofs.Rising.{are_names_of}
+use Rattle.st_wants.specs.Names.{is_named, names_of}
 use Rattle.st_model.specs.Parts.{AgreeOn, own}
 use Rattle.st_model.proofs.Lifting.{same_known}
-
--- what is seen of the pools of these names: whether one is known, and the started one
-abbrev pub seen : List Text → EngineState → List (Bool × Option PoolState)
-seen names s = map (λ n. (is_known n s, own n s)) names
 
 or_right : (a b : Bool) → b ≡ true → (a || b) ≡ true
 or_right true b h = refl
@@ -28,8 +28,23 @@ same_seen : (is_in : Text → Bool) (s t : EngineState) → AgreeOn is_in s t �
 same_seen is_in s t a [] h = refl
 same_seen is_in s t a (n ∷ names) h = rw (same_known n s t a.table, a.pools n h.0, same_seen is_in s t a names h.1) refl
 
-pub seen-local : (names : List Text) (answer : List (Bool × Option PoolState) → Reply) → IsLocal (λ n. has_path n names) (λ s. Some (answer (seen names s), s))
-seen-local names answer = record {
-  alike = λ s t a. (ap answer (same_seen (λ n. has_path n names) s t a names (each_in names)), a);
-  others = λ s. record { pools = λ n e. refl; cells = λ n e. refl; table = refl };
+each_named : (pools : List Text) → AllByRecursion (λ n. is_named (names_of pools) n ≡ true) (distinct pools)
+each_named pools = All-distinct (λ n. is_named (names_of pools) n ≡ true) pools (All-weaker _ _ pools (λ n h. (are_names_of pools).same n ∙ h) (each_in pools))
+
+stays : (s : EngineState) (is_in : Text → Bool) → Leaves is_in s s
+stays s is_in = record { pools = λ n ne. refl; cells = λ n ne. refl; table = refl }
+
+pub reports-local : (pools : List Text) → IsLocal (is_named (names_of pools)) (λ s. where_so (are_few pools) (pool_reports pools s))
+unfolding pool_reports
+reports-local pools = record {
+  alike = λ s t a. some_alike (are_few pools) s t a;
+  others = λ s. some_leaves (are_few pools) s;
 }
+  where
+    some_alike : (b : Bool) (s t : EngineState) → AgreeOn (is_named (names_of pools)) s t → AreAlike (is_named (names_of pools)) (where_so b (reports (seen (distinct pools) s), s)) (where_so b (reports (seen (distinct pools) t), t))
+    some_alike true s t a = (ap reports (same_seen (is_named (names_of pools)) s t a (distinct pools) (each_named pools)), a)
+    some_alike false s t a = tt
+
+    some_leaves : (b : Bool) (s : EngineState) → LeavesIfAny (is_named (names_of pools)) s (where_so b (reports (seen (distinct pools) s), s))
+    some_leaves true s = stays s (is_named (names_of pools))
+    some_leaves false s = tt

@@ -21,7 +21,8 @@ use Rattle.st_model.specs.Lifted.{on_pool, changed}
 use Rattle.st_model.specs.Step.{changes, is_changed}
 use Rattle.st_model.specs.Plain.{plain}
 use Rattle.st_model.specs.Valid.{IsValid}
-use Rattle.st_model.specs.steps.CreateFilesystems.{create_filesystems, to_create, distinct_specs, fs_answers, first_named, new_filesystems, is_size, size_of, is_no_size, is_below}
+use Rattle.st_model.specs.Checks.{is_size, is_no_size, is_below}
+use Rattle.st_model.specs.steps.CreateFilesystems.{create_filesystems, to_create, distinct_specs, fs_answers, first_named, new_filesystems, size_of}
 use Rattle.st_model.proofs.Among.{up}
 use Rattle.st_model.proofs.Answers0.{none_answers, so_not, not_there, not_worn, whole_unless, IsNoChange, changed-unanswered, no_change_where}
 use Rattle.st_model.proofs.Kept.{doing-valid, failed-valid}
@@ -104,7 +105,7 @@ three true true false h = absurd cc
 three true false c h = absurd cc
 three false b c h = absurd cc
 
-size_is : (n : ℕ) → is_size n ≡ true → IsSize n
+pub size_is : (n : ℕ) → is_size n ≡ true → IsSize n
 size_is n h =
     let all = three (nat_lt 0 n) (n % 128 == 0) (nat_le n (2 ^ 32)) h in
     let some : 0 < n = grind (arith, common_steps) in

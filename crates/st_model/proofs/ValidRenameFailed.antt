@@ -28,7 +28,7 @@ same_no_change : (b : Bool) → IsNoChange (cond b (Some (accepted (Changed fals
 same_no_change true = refl
 same_no_change false = tt
 
-up_no_change : (p : PoolState) (m : PoolMode) → IsNoChange (not_up p m)
+pub up_no_change : (p : PoolState) (m : PoolMode) → IsNoChange (not_up p m)
 up_no_change p Up = tt
 up_no_change p (Down call) = refl
 up_no_change p Stopped = refl

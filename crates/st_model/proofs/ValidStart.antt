@@ -20,6 +20,7 @@ use Rattle.st_model.specs.Checks.{cooled, halted, halted_from}
 use Rattle.st_model.specs.Found.{started_so, taken_over, found_after_of}
 use Rattle.st_model.specs.Lifted.{Doing, IsWithin, on_pool, changed, one_changed, runs_as}
 use Rattle.st_model.specs.Local.{Outcome, where_so}
+use Rattle.st_model.specs.steps.PowerCycle.{power_cycle}
 use Rattle.st_model.specs.steps.StartPool.{with_serial}
 use Rattle.st_model.specs.steps.StopPool.{stop_pool, stop_found}
 use Rattle.st_model.proofs.Among.{IsIn, IsPlaced, IsBeside, IsOther, same_number, self, holds_own, up}
@@ -108,6 +109,11 @@ stop-valid s name v = here (pool_at name s.pools)
     here : (o : Option PoolState) → IsValid (stop_found s name o).1
     here None = v
     here (Some p) = so (is_started p.mode) _ _
+
+-- a power cut halts each pool
+pub cycle-valid : (s : EngineState) → IsValid s → IsValid (power_cycle s).1
+unfolding power_cycle
+cycle-valid s v = each-valid s halted v (λ p. (halted_parts s.next s.devices p p.mode refl).0) (λ p. (halted_parts s.next s.devices p p.mode refl).1)
 
 -- a stopped pool is started as it is
 pub cooled_start-valid : (s : EngineState) (p : PoolState) → IsValid s → IsPlaced s.devices s.pools p → IsHalted p → AllByRecursion (IsRow s.devices) p.devices → IsGood s.next s.devices p → IsValid (with_serial p.serial (cooled Up p) s)

@@ -18,7 +18,7 @@ use Rattle.st_model.specs.Local.{Outcome}
 use Rattle.st_model.specs.Step.{is_changed, wrote, outcome}
 use Rattle.st_model.specs.Valid.{IsValid}
 use Rattle.st_model.proofs.Answers0.{IsNoChange, changed-unanswered, no_change_where}
-use Rattle.st_model.proofs.EachValid.{usual-valid, where-if, rename_pool-keeps, stop-keeps, create_fs-keeps, limit-keeps, report-keeps, engine-keeps}
+use Rattle.st_model.proofs.EachValid.{usual-valid, where-if, rename_pool-keeps, stop-keeps, create_fs-keeps, limit-keeps, report-keeps, engine-keeps, within-keeps, rename_fs-call, size_limit-call, overprovisioning-call, reports-keeps, destroy-keeps, cycle-keeps}
 use Rattle.st_model.proofs.StartKeeps.{start-keeps}
 use Rattle.st_model.proofs.ValidMaking.{create-valid, broken-valid}
 use Rattle.st_model.proofs.ValidStart.{IsValidAfter, where-valid}
@@ -59,21 +59,21 @@ outcome-keeps s (SetFsLimit pool limit) env v = limit-keeps s pool limit env v
 outcome-keeps s (PoolReport pool) env v = report-keeps s pool env v
 outcome-keeps s EngineStateReport env v = engine-keeps s env v
 -- not built yet
-outcome-keeps s (DestroyPool name) env v = usual-valid s (DestroyPool name) env v tt (λ h. absurd cc)
+outcome-keeps s (DestroyPool name) env v = destroy-keeps s name env v
 outcome-keeps s (AddDataDevs pool devices) env v = usual-valid s (AddDataDevs pool devices) env v tt (λ h. absurd cc)
 outcome-keeps s (InitCache pool devices) env v = usual-valid s (InitCache pool devices) env v tt (λ h. absurd cc)
 outcome-keeps s (AddCacheDevs pool devices) env v = usual-valid s (AddCacheDevs pool devices) env v tt (λ h. absurd cc)
 outcome-keeps s (DestroyFilesystems pool names) env v = usual-valid s (DestroyFilesystems pool names) env v tt (λ h. absurd cc)
 outcome-keeps s (SnapshotFilesystem pool origin new) env v = usual-valid s (SnapshotFilesystem pool origin new) env v tt (λ h. absurd cc)
-outcome-keeps s (RenameFilesystem pool fs new) env v = usual-valid s (RenameFilesystem pool fs new) env v tt (λ h. absurd cc)
-outcome-keeps s (SetSizeLimit pool fs limit) env v = usual-valid s (SetSizeLimit pool fs limit) env v tt (λ h. absurd cc)
-outcome-keeps s (SetOverprovisioning pool value) env v = usual-valid s (SetOverprovisioning pool value) env v tt (λ h. absurd cc)
+outcome-keeps s (RenameFilesystem pool fs new) env v = within-keeps pool _ _ (rename_fs-call pool fs new) s env v
+outcome-keeps s (SetSizeLimit pool fs limit) env v = within-keeps pool _ _ (size_limit-call pool fs limit) s env v
+outcome-keeps s (SetOverprovisioning pool value) env v = within-keeps pool _ _ (overprovisioning-call pool value) s env v
 outcome-keeps s (FsRead pool fs sector sectors) env v = usual-valid s (FsRead pool fs sector sectors) env v tt (λ h. absurd cc)
 outcome-keeps s (Check pool) env v = usual-valid s (Check pool) env v tt (λ h. absurd cc)
 outcome-keeps s (FsWrite pool fs sector payload) env v = usual-valid s (FsWrite pool fs sector payload) env v tt (λ h. absurd cc)
 outcome-keeps s (SetMerge pool fs value) env v = usual-valid s (SetMerge pool fs value) env v tt (λ h. absurd cc)
-outcome-keeps s (PoolReports pools) env v = usual-valid s (PoolReports pools) env v tt tt
-outcome-keeps s PowerCycle env v = usual-valid s PowerCycle env v tt tt
+outcome-keeps s (PoolReports pools) env v = reports-keeps s pools env v
+outcome-keeps s PowerCycle env v = cycle-keeps s env v
 
 stepped : (o : Outcome) (r : Reply) (s : EngineState) → IsValid s → IsValidAfter o → IsValid (unwrap_or o (r, s)).1
 stepped None r s v h = v

@@ -1,9 +1,10 @@
 -- checks that several calls share, and how a pool stands when it is halted or started
-use Rattle.std.specs.Prelude.{ℕ, ◌==◌, nat_lt, List, [], length, find, Option, Some, None, option_map, unwrap_or}
-use Rattle.st_limits.specs.declared.TheConstants.{MIN_DEVICE_SECTORS, MAX_COMMITS}
+use Rattle.std.specs.Prelude.{ℕ, ◌==◌, nat_lt, List, [], length, find, Option, Some, None, option_map, unwrap_or, map, if◌then◌else◌, Bool, not, sum_by, ◌/◌, ◌+◌, ◌&&◌, false, ◌%◌, nat_le}
+use Rattle.st_limits.specs.declared.TheConstants.{BLOCK_SECTORS, MAX_COMMITS, MAX_FS_SECTORS, MIN_DEVICE_SECTORS}
 use Rattle.st_units.specs.declared.cause.Cause.{Cause}
-use Rattle.st_units.specs.declared.cause.Cause.TheVariants.{EmptyDevices, NoSuchDevice, DeviceInUse, DeviceTooSmall, NoSuchFilesystem, PoolStopped, Maintenance, Worn}
+use Rattle.st_units.specs.declared.cause.Cause.TheVariants.{EmptyDevices, NoSuchDevice, DeviceInUse, DeviceTooSmall, NoSuchFilesystem, OverProvision, PoolStopped, Maintenance, Worn}
 use Rattle.st_units.specs.declared.rows.DevRow.{DevRow}
+use Rattle.st_units.specs.declared.rows.FsRow.{FsRow}
 use Rattle.st_model.specs.declared.call.Call.{Call}
 use Rattle.st_model.specs.declared.reply.Reply.{Reply}
 use Rattle.st_model.specs.declared.state.CacheState.{CacheState}
@@ -14,6 +15,7 @@ use Rattle.st_model.specs.declared.state.PoolState.{PoolState}
 use Rattle.st_model.specs.Answer.{refused, refused_by, refused_where}
 use Rattle.st_model.specs.Look.{Text, row_of, first_absent, first_used, pool_using}
 use Rattle.st_model.specs.Merged.{merged}
+use Rattle.st_model.specs.Sums.{room}
 use Rattle.std.specs.Str.{bytes_eq}
 
 -- of devices: none is given, or the rack lacks the first of these
@@ -52,6 +54,26 @@ not_up p (Incomplete path) = Some (refused PoolStopped)
 abbrev pub worn : PoolState → Option Reply
 worn p = refused_where (p.commits == MAX_COMMITS) Worn
 
+-- a size or a limit that a filesystem may have
+abbrev pub is_size : ℕ → Bool
+is_size n = nat_lt 0 n && (n % BLOCK_SECTORS == 0) && nat_le n MAX_FS_SECTORS
+
+abbrev pub is_no_size : Option ℕ → Bool
+is_no_size None = false
+is_no_size (Some n) = not (is_size n)
+
+abbrev pub is_below : Option ℕ → ℕ → Bool
+is_below None size = false
+is_below (Some limit) size = nat_lt limit size
+
+-- the sizes of all filesystems, in blocks
+abbrev pub sizes : List FsState → ℕ
+sizes filesystems = sum_by (λ (fs : FsState). fs.row.size / BLOCK_SECTORS) filesystems
+
+-- overprovisioning is off, and the sum of all sizes would be above room
+abbrev pub over_provision : PoolState → ℕ → Option Reply
+over_provision p sum = refused_where (not p.overprovisioning && nat_lt (room p) sum) (OverProvision sum (room p))
+
 abbrev pub fs_at : Text → List FsState → Option FsState
 fs_at name = find (λ (fs : FsState). bytes_eq fs.row.name name)
 
@@ -62,6 +84,13 @@ in_fs f p (Some fs) = f fs p
 -- NoSuchFilesystem, else what is done with the filesystem of this name
 abbrev pub on_fs : Text → (FsState → PoolState → Reply × PoolState) → PoolState → Reply × PoolState
 on_fs name f p = in_fs f p (fs_at name p.filesystems)
+
+-- the filesystem of this serial with another row, and a commit more
+abbrev pub with_row : (FsRow → FsRow) → ℕ → FsState → FsState
+with_row change serial fs = if fs.row.serial == serial then record fs { row = change fs.row } else fs
+
+abbrev pub rows_changed : (FsRow → FsRow) → ℕ → PoolState → PoolState
+rows_changed change serial p = record p { filesystems = map (with_row change serial) p.filesystems; commits = p.commits + 1 }
 
 abbrev pub cold : Option CacheState → Option CacheState
 cold None = None

@@ -1,14 +1,21 @@
 -- what a call answers and leaves where it meets nothing: one line a call; none where a start finds a call in flight
 use Rattle.std.specs.Prelude.{Some, None}
 use Rattle.st_model.specs.declared.call.Call.{Call}
-use Rattle.st_model.specs.declared.call.Call.TheVariants.{CreatePool, StopPool, StartPool, RenamePool, CreateFilesystems, SetFsLimit, PoolReport, EngineStateReport}
+use Rattle.st_model.specs.declared.call.Call.TheVariants.{CreatePool, DestroyPool, StopPool, StartPool, RenamePool, CreateFilesystems, RenameFilesystem, SetSizeLimit, SetFsLimit, SetOverprovisioning, PoolReport, PoolReports, EngineStateReport, PowerCycle}
 use Rattle.st_model.specs.declared.state.EngineState.{EngineState}
 use Rattle.st_model.specs.steps.CreatePool.{create_plain}
 use Rattle.st_model.specs.steps.EngineStateReport.{report_plain}
 use Rattle.st_model.specs.Lifted.{on_pool}
-use Rattle.st_model.specs.Local.{Outcome}
+use Rattle.st_model.specs.Local.{Outcome, where_so}
+use Rattle.st_model.specs.Sound.{are_few}
 use Rattle.st_model.specs.steps.CreateFilesystems.{create_filesystems}
+use Rattle.st_model.specs.steps.DestroyPool.{destroy_pool}
 use Rattle.st_model.specs.steps.PoolReport.{pool_report}
+use Rattle.st_model.specs.steps.PoolReports.{pool_reports}
+use Rattle.st_model.specs.steps.PowerCycle.{power_cycle}
+use Rattle.st_model.specs.steps.RenameFilesystem.{rename_filesystem}
+use Rattle.st_model.specs.steps.SetOverprovisioning.{set_overprovisioning}
+use Rattle.st_model.specs.steps.SetSizeLimit.{set_size_limit}
 use Rattle.st_model.specs.steps.RenamePool.{rename_pool}
 use Rattle.st_model.specs.steps.SetFsLimit.{set_fs_limit}
 use Rattle.st_model.specs.steps.StartPool.{start_pool}
@@ -16,11 +23,17 @@ use Rattle.st_model.specs.steps.StopPool.{stop_pool}
 
 abbrev pub plain : EngineState → Call → Outcome
 plain s (CreatePool name devices) = Some (create_plain s name devices)
+plain s (DestroyPool name) = Some (destroy_pool name s)
 plain s (StopPool name) = Some (stop_pool name s)
 plain s (StartPool id) = start_pool id s
 plain s (RenamePool name new) = Some (rename_pool name new s)
 plain s (CreateFilesystems pool specs) = Some (on_pool pool (create_filesystems specs) s)
 plain s (SetFsLimit pool limit) = Some (on_pool pool (set_fs_limit limit) s)
 plain s (PoolReport pool) = Some (on_pool pool pool_report s)
+plain s (RenameFilesystem pool name new) = Some (on_pool pool (rename_filesystem name new) s)
+plain s (SetSizeLimit pool name limit) = Some (on_pool pool (set_size_limit name limit) s)
+plain s (SetOverprovisioning pool value) = Some (on_pool pool (set_overprovisioning value) s)
+plain s (PoolReports pools) = where_so (are_few pools) (pool_reports pools s)
 plain s EngineStateReport = Some (report_plain s)
+plain s PowerCycle = Some (power_cycle s)
 plain s _ = None

@@ -1,8 +1,14 @@
 pub mod CreateFilesystems
 pub mod CreatePool
+pub mod DestroyPool
 pub mod EngineStateReport
 pub mod PoolReport
+pub mod PoolReports
+pub mod PowerCycle
+pub mod RenameFilesystem
 pub mod RenamePool
 pub mod SetFsLimit
+pub mod SetOverprovisioning
+pub mod SetSizeLimit
 pub mod StartPool
 pub mod StopPool

@@ -3,6 +3,7 @@
 
 mod answer;
 mod call;
+mod call_copy;
 mod entry;
 mod gate;
 mod info;

@@ -12,8 +12,7 @@ use Rattle.st_model.specs.declared.state.FsState.{FsState}
 use Rattle.st_model.specs.declared.state.PoolState.{PoolState}
 use Rattle.st_model.specs.Answer.{accepted, refused_by, refused_where, first_answer, unless_answered}
 use Rattle.st_model.specs.Look.{Text}
-use Rattle.st_model.specs.Sums.{room}
-use Rattle.st_model.specs.Checks.{fs_at, worn}
+use Rattle.st_model.specs.Checks.{fs_at, is_below, is_no_size, over_provision, sizes, worn}
 
 -- each name once, at its first place
 abbrev pub distinct_specs : List FsSpec → List FsSpec
@@ -24,29 +23,11 @@ distinct_specs (spec ∷ specs) = spec ∷ filter (λ (other : FsSpec). not (byt
 abbrev pub to_create : List FsSpec → PoolState → List FsSpec
 to_create specs p = filter (λ (spec : FsSpec). not (is_some (fs_at spec.name p.filesystems))) (distinct_specs specs)
 
-abbrev pub is_size : ℕ → Bool
-is_size n = nat_lt 0 n && (n % BLOCK_SECTORS == 0) && nat_le n MAX_FS_SECTORS
-
 abbrev pub size_of : FsSpec → ℕ
 size_of spec = unwrap_or spec.size DEFAULT_FS_SECTORS
 
-abbrev pub is_no_size : Option ℕ → Bool
-is_no_size None = false
-is_no_size (Some n) = not (is_size n)
-
-abbrev pub is_below : Option ℕ → ℕ → Bool
-is_below None size = false
-is_below (Some limit) size = nat_lt limit size
-
 abbrev pub first_named : (FsSpec → Bool) → (Text → Cause) → List FsSpec → Option Reply
 first_named test cause specs = refused_by (option_map (λ (spec : FsSpec). cause spec.name) (find test specs))
-
-abbrev pub sizes : List FsState → ℕ
-sizes filesystems = sum_by (λ (fs : FsState). fs.row.size / BLOCK_SECTORS) filesystems
-
--- overprovisioning is off, and the sum of all sizes would be above room
-abbrev pub over_provision : PoolState → ℕ → Option Reply
-over_provision p sum = refused_where (not p.overprovisioning && nat_lt (room p) sum) (OverProvision sum (room p))
 
 abbrev pub new_filesystems : ℕ → List FsSpec → List FsState
 new_filesystems serial [] = []
