@@ -8,16 +8,12 @@ use Rattle.st_poolrec.specs.declared.record.PoolRec.{PoolRec}
 use Rattle.st_poolrec.specs.Record as pools
 use Rattle.st_flexlog.specs.declared.state.FlexState.{FlexState}
 use Rattle.st_flexlog.specs.Said.{Says}
-use Rattle.st_deltalog.specs.Log.{Log, log_at, serial_in}
+use Rattle.st_deltalog.specs.Log.{Log, log_at}
+use Rattle.st_commit.specs.Standing.{keep}
 use Rattle.st_rack.specs.Story.{Content}
 use Rattle.st_rack.specs.Device.{Path, Image, cells}
 use Rattle.st_slots.specs.Reading.{read_slot, newer}
 use Rattle.st_image.specs.Looks.{pool_area, flex_area}
-
--- a slot whose body begins with this serial
-abbrev pub keep : ℕ → Found → Found
-keep p None = None
-keep p (Some x) = if nat_eq (serial_in x.1) p then Some x else None
 
 abbrev pub is_serial : ℕ → Option ℕ → Bool
 is_serial p None = false

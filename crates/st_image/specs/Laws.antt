@@ -1,6 +1,7 @@
 -- What is true of all pools, devices and images.
-use Rattle.std.specs.Prelude.{◌≡◌, ◌≢◌, ℕ, ◌+◌, Option, Some, map, slice_get}
+use Rattle.std.specs.Prelude.{◌≡◌, ◌≢◌, ℕ, ◌+◌, List, Option, Some, map, slice_get}
 use Rattle.st_poolrec.specs.declared.record.PoolRec.{PoolRec}
+use Rattle.st_flexrec.specs.declared.rows.CellRow.{CellRow}
 use Rattle.st_flexlog.specs.declared.state.FlexState.{FlexState}
 use Rattle.st_model.specs.declared.call.Call.{Call}
 use Rattle.st_model.specs.declared.state.PoolMode.TheVariants.{Up, Stopped}
@@ -13,10 +14,13 @@ use Rattle.st_rack.specs.Left.{LeftOn}
 use Rattle.st_rack.specs.Moments.{OnDevice, AllCut}
 use Rattle.st_image.specs.Looks.{look_of}
 use Rattle.st_image.specs.Bears.{paths}
-use Rattle.st_image.specs.Stands.{state_of, StandsFor}
-use Rattle.st_image.specs.Survivors.{IsBefore, after, Survives}
+use Rattle.st_image.specs.Stands.{Range, range_of, cells_of, state_of, StandsFor}
+use Rattle.st_image.specs.Survivors.{Piece, put_pieces, IsBefore, after, Survives}
 use Rattle.st_image.specs.Kept.{as_pair, in_use, Kept}
-use Rattle.st_image.specs.Calm.{Calm}
+use Rattle.st_image.specs.Calm.{Shows, Calm}
+use Rattle.st_image.specs.Committed.{Committed}
+use Rattle.st_image.specs.Pieces.{ArePieces, bytes_of}
+use Rattle.st_image.specs.Frame.{AgreesOn}
 
 -- An image stands for one thing at most.
 abbrev pub StandsOnce : Type 0
@@ -25,6 +29,15 @@ StandsOnce = (p : ℕ) (devs : Devices) (c : Image) (a b : Option PoolState) →
 -- What a crash leaves of a pool that is up stands for its merge, with the cells as reads give them.
 abbrev pub UpStands : Type 0
 UpStands = (p : ℕ) (devs : Devices) (g : ℕ) (rec : PoolRec) (st : FlexState) (s : State) (c : Image) → Calm p devs g rec st s → LeftOn (paths devs) look_of s c → StandsFor p devs c (Some (merged (state_of g rec st (held s))))
+
+-- What commits leave shows in whatever a crash leaves.
+abbrev pub CommittedShows : Type 0
+CommittedShows = (p : ℕ) (devs : Devices) (g : ℕ) (rec : PoolRec) (st : FlexState) (s : State) (c : Image) → Committed p devs g rec st s → LeftOn (paths devs) look_of s c → Shows p devs g rec st c
+
+-- An image that agrees with another but for some pieces of cells has its cells, with the bytes that it has itself in these pieces.
+abbrev pub CellsWithPieces : Type 0
+CellsWithPieces = (rec : PoolRec) (rows : List CellRow) (qs : List Piece) (rs : List Range) (c m : Image) → ArePieces rec rows qs rs → ((k : ℕ) (row : CellRow) → slice_get rows k ≡ Some row → AgreesOn (range_of rec row.place) rs c m)
+    → cells_of rec rows c ≡ put_pieces qs (bytes_of rs c) (cells_of rec rows m)
 
 -- A pool that is up is kept, where its state is what its records and the cells' bytes say.
 abbrev pub UpIsKept : Type 0

@@ -5,5 +5,6 @@ pub mod Survivors
 pub mod Frame
 pub mod Kept
 pub mod Calm
+pub mod Committed
 pub mod Pieces
 pub mod Laws

@@ -1,6 +1,6 @@
 //! Laws of what devices stand for and keep. They do nothing when they run.
 
-ghost use Rattle.st_image.specs.Laws.{StandsOnce, UpStands, UpIsKept, KeptWhereSame, KeptBySync, KeptByCut, KeptByStop, OtherCommits, SameCommits};
+ghost use Rattle.st_image.specs.Laws.{StandsOnce, UpStands, UpIsKept, CommittedShows, CellsWithPieces, KeptWhereSame, KeptBySync, KeptByCut, KeptByStop, OtherCommits, SameCommits};
 
 /// Devices stand for one thing at most.
 pub fn stands_once()
@@ -15,6 +15,16 @@ pub fn up_stands()
 /// A pool that is up is kept.
 pub fn up_is_kept()
     ensures { UpIsKept }
+{}
+
+/// What commits leave shows in whatever a crash leaves.
+pub fn committed_shows()
+    ensures { CommittedShows }
+{}
+
+/// Cells of an image that differs from another in pieces alone.
+pub fn cells_with_pieces()
+    ensures { CellsWithPieces }
 {}
 
 /// A pool is kept where a rack is split or joined.
