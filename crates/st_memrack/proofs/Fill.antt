@@ -1,11 +1,12 @@
 -- A rack is filled from the last device on.
-use Rattle.std.proofs.Common.{◌≡◌, ℕ, zero, suc, ◌<◌, ◌≤◌, Bool, true, false, cond, is_some, Some, None, Option, IsNone, List, [], ◌∷◌, length, get_or, drop, map, refl, sym, ◌∙◌, ap, arith}
+use Rattle.std.proofs.Common.{◌≡◌, ℕ, zero, suc, ◌<◌, ◌≤◌, Bool, true, false, cond, is_some, Some, None, Option, IsNone, List, [], ◌∷◌, length, get_or, drop, map, inl, inr, refl, sym, ◌∙◌, ap, subst, arith}
 use Rattle.std.specs.List.{AllByRecursion, IsDistinct}
 use Rattle.std.specs.Str.{bytes_eq}
+use Rattle.std.proofs.lemmas.Bool.{cases_Bool}
 use Rattle.std.proofs.lemmas.List.{drop_all}
 use Rattle.st_rack.specs.Device.{Path, DevState}
 use Rattle.st_rack.specs.Calls.{Devices, sectors_of, path_in}
-use Rattle.st_shelf.specs.Shelf.{look, insert_in, no_device}
+use Rattle.st_shelf.specs.Shelf.{comes_before, look, insert_in, no_device}
 use Rattle.st_shelf.proofs.Order.{rises_none}
 use Rattle.st_shelf.proofs.Look.{bytes_eq-sym, sectors_look, is_in_some}
 use Rattle.st_shelf.proofs.Come.{look-insert_in, length-insert_in, rises-insert}
@@ -33,6 +34,14 @@ fresh (x ∷ given) (suc k) d h lt = fresh given k d h.1 (omega arith)
 same_either : {A : Type 0} (b : Bool) (x : A) → cond b x x ≡ x
 same_either true x = refl
 same_either false x = refl
+
+-- what holds of a device and of a list holds of the list with the device
+pub all-insert_in : {D : Type 0} (path : D → Path) (P : D → Type 0) (s : D) (list : List D) → P s → AllByRecursion P list → AllByRecursion P (insert_in path s list)
+all-insert_in path P s [] here all = (here, all)
+all-insert_in path P s (x ∷ list) here all = elim (cases_Bool (comes_before (path x) (path s))) [
+  | inl before ↦ subst (AllByRecursion P) (sym (ap (λ (b : Bool). cond b (x ∷ insert_in path s list) (s ∷ x ∷ list)) before)) (all.0, all-insert_in path P s list here all.1)
+  | inr after ↦ subst (AllByRecursion P) (sym (ap (λ (b : Bool). cond b (x ∷ insert_in path s list) (s ∷ x ∷ list)) after)) (here, all)
+]
 
 module _ {D : Type 0} (path : D → Path) (size : D → ℕ) (state : D → DevState) (reads : D → ℕ) (given : Devices) where
   pub filled_none : (k : ℕ) → length given ≤ k → k ≤ length given → Filled path size state reads given k []

@@ -1,10 +1,11 @@
 -- A rack on which nothing was done yet.
-use Rattle.std.specs.Prelude.{◌≡◌, ℕ, ◌+◌, List, map, length, drop}
+use Rattle.std.specs.Prelude.{◌≡◌, ℕ, ◌+◌, false, List, [], map, length, drop}
 use Rattle.std.specs.List.{IsDistinct}
 use Rattle.std.specs.Str.{bytes_eq}
 use Rattle.st_rack.specs.Device.{Path, DevState, State, Synced}
 use Rattle.st_rack.specs.Calls.{Devices, Rises, sectors_of, path_in}
 use Rattle.st_shelf.specs.Shelf.{look, rows_of, state_in, no_device}
+use Rattle.st_sparse.specs.declared.sparse.Sparse.{Sparse}
 use Rattle.st_memrack.specs.Slab.{slab_path, slab_size, slab_state, slab_reads}
 use Rattle.st_memrack.specs.declared.slab.Slab.{Slab}
 
@@ -27,6 +28,12 @@ pub record Filled {D : Type 0} (path : D → Path) (size : D → ℕ) (state : D
   pub zeros : (p : Path) → state_in path state list p ≡ no_device
   pub count : length list + k ≡ length given
   pub unread : (p : Path) → look path reads_of 0 list p ≡ 0
+
+-- a device on which nothing is armed, stopped or written
+pub record IsUnarmed (d : Sparse) : Type 0 where
+  pub no_arms : d.arms.list.items ≡ []
+  pub works : d.arms.stopped ≡ false
+  pub unwritten : d.since.items ≡ []
 
 -- a slab and what a sync leaves of it
 pub record IsSettled (old new : Slab) : Type 0 where

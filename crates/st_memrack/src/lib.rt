@@ -1,9 +1,9 @@
 //! Racks in memory.
 #![tactic(auto)]
 
-mod calls;
 mod memrack;
 mod nofault;
+mod one_device;
 mod record;
 mod slab;
 

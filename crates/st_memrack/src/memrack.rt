@@ -1,12 +1,15 @@
-ghost use Rattle.std.specs.Prelude.{◌≡◌, ◌+◌, ◌-◌, ◌^◌, ◌<◌, ◌≤◌, min, ℕ, IfOk, true, [], length, vec_capacity, vec_len, if◌then◌else◌};
+ghost use Rattle.std.specs.Prelude.{◌≡◌, ◌+◌, ◌-◌, ◌^◌, ◌<◌, ◌≤◌, min, ℕ, IfOk, true, false, [], length, vec_capacity, vec_len, if◌then◌else◌};
 ghost use Rattle.std.proofs.Props.{props};
 ghost use Rattle.st_rack.specs.Calls.{Rises};
 ghost use Rattle.st_shelf.specs.Shelf.{rows_of};
 ghost use Rattle.st_sparse.specs.Sparse.{sparse_path, sparse_size, sparse_state, sparse_reads};
-ghost use Rattle.st_memrack.specs.Blank.{AreDistinct, Filled};
+ghost use Rattle.std.specs.List.{AllByRecursion};
+ghost use Rattle.st_sparse.specs.declared.kinds.Pick.TheVariants.{New};
+ghost use Rattle.st_memrack.specs.Blank.{AreDistinct, Filled, IsUnarmed};
 
 use crate::Record;
-use crate::calls::{arm_at, cycle_all, read_at, sync_at, write_at};
+use crate::one_device::{arm_on, cycle_all, read_on, sync_on, write_on};
+use st_limits::SECTOR_BYTES;
 use st_rack::{DevFault, Rack};
 use st_shelf::{Past, copied, find, insert, remember, remember_joined, take_in, take_out};
 use st_sparse::{Arm, How, Kind, Pick, Sparse};
@@ -29,7 +32,8 @@ pub struct MemRack {
 // From the last on, so that at each step the list has the devices from `left` on.
 fn blank_devices(alloc: Global, devs: &[(DevPath, u64)]) -> Result<Vec<Sparse>, NoMemory>
     requires { AreDistinct devs.now }
-    ensures { IfOk result (λ v. Filled sparse_path sparse_size sparse_state sparse_reads devs.now 0 v.items) }
+    ensures filled { IfOk result (λ v. Filled sparse_path sparse_size sparse_state sparse_reads devs.now 0 v.items) }
+    ensures unarmed { IfOk result (λ v. AllByRecursion IsUnarmed v.items) }
 {
     let mut devices = Vec::with_capacity(alloc, devs.len())?;
     let mut left = devs.len();
@@ -61,12 +65,17 @@ impl MemRack {
     ghost use Rattle.st_memrack.specs.Exact.{ArmsOn};
 
     /// A rack of these devices, each given by its path and its sectors, of zeros and with no arms. What a failed write and a
-    /// power cut leave is picked as `New`.
+    /// power cut leave is picked as `New`, and calls aren't recorded before the first mark.
     pub fn blank(alloc: Global, devs: &[(DevPath, u64)]) -> Result<MemRack, NoMemory>
         requires { AreDistinct devs.now }
         ensures blank { IfOk result (λ r. IsBlank mem_devs mem_moment mem_state_at mem_reads devs.now r) }
         ensures faults { IfOk result (λ r. r.faults ≡ 0) }
         ensures short { IfOk result (λ r. r.short ≡ 0) }
+        ensures unarmed { IfOk result (λ r. AllByRecursion IsUnarmed (mem_list r)) }
+        ensures pick { IfOk result (λ r. r.pick ≡ New) }
+        ensures unmarked { IfOk result (λ r. r.calls.on ≡ false) }
+        ensures no_calls { IfOk result (λ r. r.calls.calls.items ≡ []) }
+        ensures none_missed { IfOk result (λ r. r.calls.missed ≡ 0) }
     {
         let devices = blank_devices(alloc, devs)?;
         Ok(MemRack {
@@ -103,7 +112,7 @@ impl MemRack {
             how,
             spent: false,
         };
-        arm_at(&mut self.devices, dev, arm)
+        arm_on(&mut self.devices, dev, arm)
     }
 
     /// Says what of an unsynced write reaches the device where a write fails, and at a power cut.
@@ -218,8 +227,8 @@ impl Rack for MemRack {
         ensures cause { HasCause (mem_faults self.old) (mem_faults self.new) result }
         ensures exact { ReadsOn dev.now sector buf.old buf.new result self.old self.new }
     {
-        let sectors = buf.len() as u64 / 512;
-        let result = read_at(&mut self.devices, dev, sector, buf);
+        let sectors = buf.len() as u64 / SECTOR_BYTES;
+        let result = read_on(&mut self.devices, dev, sector, buf);
         self.faults = raised(result.is_err(), self.faults);
         self.calls
             .note(dev, Kind::Read, sector, sectors, result.is_err());
@@ -237,9 +246,9 @@ impl Rack for MemRack {
         ensures cause { HasCause (mem_faults self.old) (mem_faults self.new) result }
         ensures exact { WritesOn dev.now sector bytes.now result self.old self.new }
     {
-        let sectors = bytes.len() as u64 / 512;
+        let sectors = bytes.len() as u64 / SECTOR_BYTES;
         remember(&self.devices, &mut self.past);
-        match write_at(&mut self.devices, dev, sector, bytes, self.pick) {
+        match write_on(&mut self.devices, dev, sector, bytes, self.pick) {
             Ok(()) => {
                 self.calls.note(dev, Kind::Write, sector, sectors, false);
                 Ok(())
@@ -265,7 +274,7 @@ impl Rack for MemRack {
         ensures exact { SyncsOn dev.now result self.old self.new }
     {
         remember(&self.devices, &mut self.past);
-        let result = sync_at(&mut self.devices, dev);
+        let result = sync_on(&mut self.devices, dev);
         self.faults = raised(result.is_err(), self.faults);
         self.calls.note(dev, Kind::Sync, 0, 0, result.is_err());
         result

@@ -77,7 +77,7 @@ impl Rack for NoFaultRack {
 
     fn sectors(&self, dev: &DevPath) -> Option<u64> {
         match find(&self.slabs, dev) {
-            Some(i) => Some(self.slabs[i].bytes.len() as u64 / 512),
+            Some(i) => Some(self.slabs[i].sectors),
             None => None,
         }
     }

@@ -1,17 +1,24 @@
-ghost use Rattle.std.specs.Prelude.{◌≡◌, ◌+◌, ◌*◌, ◌<◌, ◌≤◌, ◌++◌, ◌-◌, ◌^◌, min, ℕ, length, take, drop, slice_index, IfOk};
+ghost use Rattle.std.specs.Prelude.{◌≡◌, ◌+◌, ◌*◌, ◌<◌, ◌≤◌, ◌-◌, ◌^◌, min, length, IfOk};
+ghost use Rattle.st_limits.specs.declared.TheConstants.{BLOCK_BYTES};
+ghost use Rattle.st_blocks.specs.Blocks.{count_of};
 
+use st_blocks::Blocks;
+use st_limits::{BLOCK_BYTES, SECTOR_BYTES};
 use st_shelf::{Device, Told, tell_settled, tell_write};
 use st_units::{DevPath, NoMemory};
 use std::alloc::Global;
 use std::snapshot::Snapshot;
 
-/// A device that is one block of bytes.
+/// A device whose memory is taken when it is made, and touched where it is written.
 #[derive(Drop)]
 pub struct Slab {
     pub path: DevPath,
-    pub bytes: Vec<u8>,
-    pub reads: u64,
-    pub story: Snapshot<Told<Vec<u8>>>,
+    pub sectors: u64,
+    blocks: Blocks,
+    reads: u64,
+    story: Snapshot<Told<Blocks>>,
+    ghost small: { 512 * sectors < 2 ^ 64 },
+    ghost room: { 512 * sectors ≤ BLOCK_BYTES * count_of blocks },
 }
 
 impl Device for Slab {
@@ -42,10 +49,14 @@ impl Slab {
         ensures reads { IfOk result (λ s. s.reads ≡ 0) }
     {
         let path = path.copy()?;
-        let bytes = zeros(alloc, sectors)?;
+        let Some(bytes) = sectors.checked_mul(SECTOR_BYTES) else {
+            return Err(NoMemory);
+        };
+        let blocks = Blocks::zeros(alloc, bytes.div_ceil(BLOCK_BYTES) as usize)?;
         Ok(Slab {
             path,
-            bytes,
+            sectors,
+            blocks,
             reads: 0,
             story: Snapshot::of(&Told::Blank),
         })
@@ -60,8 +71,7 @@ impl Slab {
         ensures path { slab_path self.new ≡ slab_path self.old }
         ensures size { slab_size self.new ≡ slab_size self.old }
     {
-        let at = 512 * sector as usize;
-        buf.copy_from_slice(&self.bytes[at..at + buf.len()]);
+        self.blocks.read((SECTOR_BYTES * sector) as usize, buf);
         self.reads = self.reads.saturating_add(1);
     }
 
@@ -74,8 +84,7 @@ impl Slab {
         ensures size { slab_size self.new ≡ slab_size self.old }
         ensures reads { self.new.reads ≡ self.old.reads }
     {
-        let at = 512 * sector as usize;
-        overwrite(&mut self.bytes, at, bytes);
+        self.blocks.write((SECTOR_BYTES * sector) as usize, bytes);
         tell_write(&mut self.story, sector, bytes);
     }
 
@@ -86,24 +95,6 @@ impl Slab {
         ensures size { slab_size self.new ≡ slab_size self.old }
         ensures reads { self.new.reads ≡ self.old.reads }
     {
-        tell_settled(&mut self.story, &self.bytes);
+        tell_settled(&mut self.story, &self.blocks);
     }
-}
-
-fn zeros(alloc: Global, sectors: u64) -> Result<Vec<u8>, NoMemory>
-    ensures len { IfOk result (λ v. length v.items ≡ 512 * sectors) }
-    ensures zeros { IfOk result (λ v. (i : ℕ) → slice_index v.items i ≡ 0) }
-{
-    let Some(bytes) = sectors.checked_mul(512) else {
-        return Err(NoMemory);
-    };
-    Ok(vec![in alloc; 0u8; bytes as usize]?)
-}
-
-fn overwrite(own: &mut Vec<u8>, at: usize, bytes: &[u8])
-    requires { at + length bytes.now ≤ length own.old.items }
-    ensures items { own.new.items ≡ take at own.old.items ++ bytes.now ++ drop (at + length bytes.now) own.old.items }
-    ensures len { length own.new.items ≡ length own.old.items }
-{
-    own[at..at + bytes.len()].copy_from_slice(bytes);
 }

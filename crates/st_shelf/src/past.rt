@@ -20,7 +20,7 @@ pub enum Past<D> {
 }
 
 /// Notes the devices before a change.
-pub fn remember<D: Device + Drop>(devices: &Vec<D>, past: &mut Snapshot<Past<D>>)
+pub fn remember<D: Device>(devices: &Vec<D>, past: &mut Snapshot<Past<D>>)
     ensures depth { depth past.new.value ≡ depth past.old.value + 1 }
     ensures was { (now : _) (k : ℕ) (p : Path) → was D.path_of D.state past.new.value now k p ≡ (if nat_le k (depth past.old.value) then was D.path_of D.state past.old.value (state_in D.path_of D.state devices.now.items) k p else now p) }
 {
@@ -30,11 +30,7 @@ pub fn remember<D: Device + Drop>(devices: &Vec<D>, past: &mut Snapshot<Past<D>>
 }
 
 /// Notes the devices before others join them, which are taken as having been there all the time.
-pub fn remember_joined<D: Device + Drop>(
-    devices: &Vec<D>,
-    others: &Vec<D>,
-    past: &mut Snapshot<Past<D>>,
-)
+pub fn remember_joined<D: Device>(devices: &Vec<D>, others: &Vec<D>, past: &mut Snapshot<Past<D>>)
     ensures depth { depth past.new.value ≡ depth past.old.value + 1 }
     ensures was { (now : _) (k : ℕ) (p : Path) → was D.path_of D.state past.new.value now k p ≡ (if nat_le k (depth past.old.value)
         then (if is_in D.path_of others.now.items p then state_in D.path_of D.state others.now.items p else was D.path_of D.state past.old.value (state_in D.path_of D.state devices.now.items) k p) else now p) }
@@ -45,7 +41,7 @@ pub fn remember_joined<D: Device + Drop>(
 }
 
 /// The same past once more.
-pub fn copied<D: Device + Drop>(past: &Snapshot<Past<D>>) -> Snapshot<Past<D>>
+pub fn copied<D: Device>(past: &Snapshot<Past<D>>) -> Snapshot<Past<D>>
     ensures depth { depth result.value ≡ depth past.now.value }
     ensures was { (now : _) (k : ℕ) (p : Path) → was D.path_of D.state result.value now k p ≡ was D.path_of D.state past.now.value now k p }
 {

@@ -91,7 +91,7 @@ pub fn insert<D: Device>(devices: &mut Vec<D>, device: D)
 }
 
 /// Moves devices into their places, for which there is room.
-pub fn take_in<D: Device + Drop>(devices: &mut Vec<D>, others: &mut Vec<D>)
+pub fn take_in<D: Device>(devices: &mut Vec<D>, others: &mut Vec<D>)
     requires { vec_len devices.old + vec_len others.old ≤ vec_capacity devices.old }
     ensures items { devices.new.items ≡ join_in D.path_of devices.old.items others.old.items }
     ensures len { vec_len devices.new ≡ vec_len devices.old + vec_len others.old }
@@ -112,7 +112,7 @@ fn is_named<D: Device>(device: &D, list: &DevList) -> bool
 }
 
 /// Moves the devices of the list out, into a `Vec` that has room for all.
-pub fn take_out<D: Device + Drop>(devices: &mut Vec<D>, list: &DevList, part: &mut Vec<D>)
+pub fn take_out<D: Device>(devices: &mut Vec<D>, list: &DevList, part: &mut Vec<D>)
     requires empty { (part.old.items ≡ []) × (vec_len part.old ≡ 0) }
     requires room { vec_len devices.old ≤ vec_capacity part.old }
     ensures stay { devices.new.items ≡ filter (λ d. not (names list.now (D.path_of d))) devices.old.items }

@@ -23,7 +23,7 @@ pub enum Text {
 }
 
 /// Notes that these bytes are to be written.
-pub fn tell_write<C: Drop>(story: &mut Snapshot<Told<C>>, sector: u64, bytes: &[u8])
+pub fn tell_write<C>(story: &mut Snapshot<Told<C>>, sector: u64, bytes: &[u8])
     ensures { (content : C → Content) → story_of content story.new.value ≡ Wrote (512 * sector) bytes.now (story_of content story.old.value) }
 {
     let before = mem::replace(story, Snapshot::of(&Told::Blank));
@@ -32,7 +32,7 @@ pub fn tell_write<C: Drop>(story: &mut Snapshot<Told<C>>, sector: u64, bytes: &[
 }
 
 /// Notes that this content is settled.
-pub fn tell_settled<C: Drop>(story: &mut Snapshot<Told<C>>, held: &C)
+pub fn tell_settled<C>(story: &mut Snapshot<Told<C>>, held: &C)
     ensures { (content : C → Content) → story_of content story.new.value ≡ Settled (content held.now) (story_of content story.old.value) }
 {
     let before = mem::replace(story, Snapshot::of(&Told::Blank));

@@ -1,25 +1,20 @@
-ghost use Rattle.std.specs.Prelude.{◌≡◌, ◌≢◌, ◌+◌, ◌*◌, ◌/◌, ◌%◌, ◌^◌, ◌<◌, ◌≤◌, ◌++◌, true, ℕ, length, take, drop, get_or, OnOk, OnErr, is_some};
+ghost use Rattle.std.specs.Prelude.{◌≡◌, ◌≢◌, ◌+◌, ◌*◌, ◌/◌, ◌%◌, ◌^◌, ◌<◌, ◌≤◌, ◌++◌, true, ℕ, length, take, get_or, OnOk, OnErr, is_some};
 ghost use Rattle.std.specs.BTreeMap.{get};
 ghost use Rattle.std.specs.Ordering.{nat_cmp};
 ghost use Rattle.st_rack.specs.Device.{cells};
 ghost use Rattle.st_rack.specs.Story.{Content, put_in, within};
 ghost use Rattle.st_sparse.specs.Sectors.{byte_at, is_kept};
 
+use st_fields::put;
+use st_limits::SECTOR_BYTES;
 use st_units::NoMemory;
 use std::collections::BTreeMap;
 
-/// The sectors that are kept; a sector that isn't is zeros.
-pub type Sectors = BTreeMap<u64, [u8; 512]>;
+/// The bytes of a sector.
+pub const SECTOR: usize = SECTOR_BYTES as usize;
 
-// Copies a piece into its place.
-fn paste(bytes: &mut [u8], at: usize, piece: &[u8])
-    requires { at + length piece.now ≤ length bytes.old }
-    ensures all { bytes.new ≡ take at bytes.old ++ piece.now ++ drop (at + length piece.now) bytes.old }
-    ensures front { take (at + length piece.now) bytes.new ≡ take at bytes.old ++ piece.now }
-    ensures len { length bytes.new ≡ length bytes.old }
-{
-    bytes[at..at + piece.len()].copy_from_slice(piece);
-}
+/// The sectors that are kept; a sector that isn't is zeros.
+pub type Sectors = BTreeMap<u64, [u8; SECTOR]>;
 
 // Copies a sector into its place.
 fn read_one(kept: &Sectors, sector: u64, buf: &mut [u8], at: usize)
@@ -28,8 +23,8 @@ fn read_one(kept: &Sectors, sector: u64, buf: &mut [u8], at: usize)
     ensures len { length buf.new ≡ length buf.old }
 {
     match kept.get(&sector) {
-        Some(bytes) => paste(buf, at, bytes),
-        None => paste(buf, at, &[0; 512]),
+        Some(bytes) => put(buf, at, bytes),
+        None => put(buf, at, &[0; SECTOR]),
     }
 }
 
@@ -39,8 +34,8 @@ pub fn read_kept(kept: &Sectors, sector: u64, buf: &mut [u8])
     requires fits { 512 * sector + length buf.old < 512 * 2 ^ 64 }
     ensures { buf.new ≡ cells (byte_at kept.now) (512 * sector) (length buf.old) }
 {
-    for k in 0..buf.len() / 512 {
-        read_one(kept, sector + k as u64, buf, 512 * k);
+    for k in 0..buf.len() / SECTOR {
+        read_one(kept, sector + k as u64, buf, SECTOR * k);
     }
 }
 
@@ -53,11 +48,17 @@ pub fn lay_over(buf: &mut [u8], sector: u64, from: u64, bytes: &[u8])
     ensures { (f : Content) → buf.old ≡ cells f (512 * sector) (length buf.old) → buf.new ≡ cells (put_in (512 * from) bytes.now f) (512 * sector) (length buf.old) }
 {
     let low = sector.max(from);
-    let high = (sector + buf.len() as u64 / 512).min(from + bytes.len() as u64 / 512);
+    let high = (sector + buf.len() as u64 / SECTOR_BYTES).min(
+        from + bytes.len() as u64 / SECTOR_BYTES,
+    );
     if low < high {
-        let first = 512 * (low - from) as usize;
-        let last = 512 * (high - from) as usize;
-        paste(buf, 512 * (low - sector) as usize, &bytes[first..last]);
+        let first = (SECTOR_BYTES * (low - from)) as usize;
+        let last = (SECTOR_BYTES * (high - from)) as usize;
+        put(
+            buf,
+            (SECTOR_BYTES * (low - sector)) as usize,
+            &bytes[first..last],
+        );
     }
 }
 
@@ -69,7 +70,7 @@ fn write_one(kept: &mut Sectors, sector: u64, bytes: &[u8])
     ensures others { (i : ℕ) → i / 512 ≢ sector → byte_at kept.new i ≡ byte_at kept.old i }
     ensures keys { (s : ℕ) → is_kept kept.new s ≡ is_kept kept.old s }
 {
-    let mut copy = [0u8; 512];
+    let mut copy = [0u8; SECTOR];
     copy.copy_from_slice(bytes);
     match kept.insert(sector, copy) {
         Ok(_) => {}
@@ -85,8 +86,12 @@ pub fn write_kept(kept: &mut Sectors, sector: u64, bytes: &[u8])
     ensures bytes { (i : ℕ) → byte_at kept.new i ≡ put_in (512 * sector) bytes.now (byte_at kept.old) i }
     ensures keys { (s : ℕ) → is_kept kept.new s ≡ is_kept kept.old s }
 {
-    for k in 0..bytes.len() / 512 {
-        write_one(kept, sector + k as u64, &bytes[512 * k..512 * k + 512]);
+    for k in 0..bytes.len() / SECTOR {
+        write_one(
+            kept,
+            sector + k as u64,
+            &bytes[SECTOR * k..SECTOR * k + SECTOR],
+        );
     }
 }
 
@@ -99,7 +104,7 @@ fn keep_one(kept: &mut Sectors, sector: u64) -> Result<(), NoMemory>
     if kept.contains_key(&sector) {
         return Ok(());
     }
-    match kept.insert(sector, [0; 512]) {
+    match kept.insert(sector, [0; SECTOR]) {
         Ok(_) => Ok(()),
         Err(_) => Err(NoMemory),
     }

@@ -9,6 +9,7 @@ use crate::arms::{Arm, Arms};
 use crate::lay::{lay_all_in, lay_all_over};
 use crate::sectors::{Sectors, keep, read_kept};
 use crate::{Kind, Pick, Torn};
+use st_limits::SECTOR_BYTES;
 use st_rack::DevFault;
 use st_shelf::{Device, Told, tell_settled, tell_write};
 use st_units::{DevPath, NoMemory};
@@ -76,6 +77,7 @@ impl Sparse {
         ensures reads { IfOk result (λ s. sparse_reads s ≡ 0) }
         ensures arms { IfOk result (λ s. s.arms.list.items ≡ []) }
         ensures works { IfOk result (λ s. s.arms.stopped ≡ false) }
+        ensures unwritten { IfOk result (λ s. s.since.items ≡ []) }
     {
         let path = path.copy()?;
         Ok(Sparse {
@@ -120,7 +122,10 @@ impl Sparse {
         ensures size { sparse_size self.new ≡ sparse_size self.old }
     {
         self.reads = self.reads.saturating_add(1);
-        if self.arms.meet(Kind::Read, sector, buf.len() as u64 / 512) {
+        if self
+            .arms
+            .meet(Kind::Read, sector, buf.len() as u64 / SECTOR_BYTES)
+        {
             return Err(DevFault);
         }
         read_kept(&self.kept, sector, buf);
@@ -144,7 +149,7 @@ impl Sparse {
     {
         tell_write(&mut self.story, sector, bytes);
         let text = Vec::from_slice(self.alloc, bytes)?;
-        keep(&mut self.kept, sector, bytes.len() as u64 / 512)?;
+        keep(&mut self.kept, sector, bytes.len() as u64 / SECTOR_BYTES)?;
         let torn = Torn {
             sector,
             bytes: text,
@@ -171,7 +176,7 @@ impl Sparse {
     {
         let fails = self
             .arms
-            .meet(Kind::Write, sector, bytes.len() as u64 / 512);
+            .meet(Kind::Write, sector, bytes.len() as u64 / SECTOR_BYTES);
         match self.tear(sector, bytes, took(fails, pick)) {
             Ok(()) if fails => Err(WriteFault { short: false }),
             Ok(()) => Ok(()),

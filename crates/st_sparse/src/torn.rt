@@ -1,6 +1,7 @@
 ghost use Rattle.std.specs.Prelude.{◌≡◌, ◌+◌, ◌*◌, ◌%◌, ◌^◌, ◌<◌, length};
 
 use crate::Pick;
+use crate::sectors::SECTOR;
 
 /// A write that wasn't synced yet: from which sector on, its bytes as they were meant, and what of them a read gives.
 #[derive(Drop)]
@@ -22,7 +23,7 @@ impl Torn {
         match pick {
             Pick::Old => &self.bytes[..0],
             Pick::New => self.bytes.as_slice(),
-            Pick::Half => &self.bytes[..512 * (self.bytes.len() / 512).div_ceil(2)],
+            Pick::Half => &self.bytes[..SECTOR * (self.bytes.len() / SECTOR).div_ceil(2)],
         }
     }
 }

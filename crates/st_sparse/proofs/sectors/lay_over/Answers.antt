@@ -20,7 +20,7 @@ returns-then-low-high c =
     let fits : a + m ≤ n = omega (arith, is_low, is_high, c.if-low-high.true) in
     let size : length (take m (drop first bytes)) ≡ m = omega (arith, length-take {A = ℕ}, length-drop {A = ℕ}, inside) in
     λ f given.
-    c.paste.ensures.all
+    c.put.ensures.all
     ∙ (λ i. take a (given i) ++ take m (drop first bytes) ++ drop (a + size i) (given i))
     ∙ laid f (512 * s) n (512 * from) bytes a first m same inside fits
     (λ k lt. omega (arith, is_low, lt))

@@ -12,16 +12,16 @@ use Rattle.st_memrack.proofs.memrack.MemRack.arm.Goals as goal
 
 pub invariant_of-self : goal.invariant_of-self
 invariant_of-self c =
-    let rel = ArmEnds (new_arm c.args.kind c.args.first c.args.last c.args.skip c.args.how) c.arm_at.result in
-    record { rises = subst (λ (rows : Devices). Rises rows) (sym (rows_one sparse_path rel c.args.dev.now (list_of c.args.self.now) c.arm_at.new.devices.items c.arm_at.ensures.one sparse_size (λ a b r. r.size))) c.args.self.now.rises }
+    let rel = ArmEnds (new_arm c.args.kind c.args.first c.args.last c.args.skip c.args.how) c.arm_on.result in
+    record { rises = subst (λ (rows : Devices). Rises rows) (sym (rows_one sparse_path rel c.args.dev.now (list_of c.args.self.now) c.arm_on.new.devices.items c.arm_on.ensures.one sparse_size (λ a b r. r.size))) c.args.self.now.rises }
 
 pub returns-clause-same : goal.returns-clause-same
 returns-clause-same c =
-    let rel = ArmEnds (new_arm c.args.kind c.args.first c.args.last c.args.skip c.args.how) c.arm_at.result in
+    let rel = ArmEnds (new_arm c.args.kind c.args.first c.args.last c.args.skip c.args.how) c.arm_on.result in
     let dev = c.args.dev.now in
     let l = list_of c.args.self.now in
-    let new = c.arm_at.new.devices.items in
-    let one = c.arm_at.ensures.one in
+    let new = c.arm_on.new.devices.items in
+    let one = c.arm_on.ensures.one in
     record {
       devices = rows_one sparse_path rel dev l new one sparse_size (λ a b r. r.size);
       clock = refl;

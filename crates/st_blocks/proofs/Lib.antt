@@ -1,0 +1,4 @@
+mod Put
+mod Table
+mod Read
+mod Write
