@@ -1,5 +1,5 @@
 -- no reply has a float
-use Rattle.std.proofs.Common.{◌≡◌, ℕ, List, [], ◌∷◌, Bool, false, Option, Some, None, refl}
+use Rattle.std.proofs.Common.{◌≡◌, ℕ, List, false, Option, Some, None, refl}
 use Rattle.serde_json.specs.Data.{Data}
 use Rattle.serde_json.specs.Written.{has_float}
 use Rattle.st_model.specs.declared.reply.Given.{Given}
@@ -7,7 +7,7 @@ use Rattle.st_model.specs.declared.reply.Given.TheVariants as gives
 use Rattle.st_model.specs.declared.reply.Identity.{Identity}
 use Rattle.st_model.specs.declared.reply.NewFs.{NewFs}
 use Rattle.st_model.specs.declared.reply.Reply.{Reply}
-use Rattle.st_report.proofs.Floats.{no_float-map, no_float-texts, no_float-engine, no_float-pool}
+use Rattle.st_report.proofs.Floats.{no_float-map, no_float-texts, no_float-engine, no_float-pool, no_float-pools}
 use Rattle.st_replies.specs.Results.{identity_data, identity_or_null, created_data, new_filesystem, new_filesystems, identities_data, result_data}
 use Rattle.st_replies.specs.Shown.{reply_data, line_data}
 
@@ -50,6 +50,7 @@ no_float-result (Some (gives.Written sectors)) = refl
 no_float-result (Some (gives.Read bytes)) = refl
 no_float-result (Some (gives.Checked changed added grown)) = refl
 no_float-result (Some (gives.Pool info)) = no_float-pool info
+no_float-result (Some (gives.Pools infos)) = no_float-pools infos
 no_float-result (Some (gives.Engine table infos)) = no_float-engine table infos
 no_float-result (Some gives.Accepted) = refl
 

@@ -1,5 +1,5 @@
 -- what calls give, as JSON
-use Rattle.std.specs.Prelude.{ℕ, List, [], ◌∷◌, Bool, codes, map, Option, Some, None}
+use Rattle.std.specs.Prelude.{ℕ, List, Bool, codes, map, Option, Some, None}
 use Rattle.hex.specs.Hex.{encode_lower}
 use Rattle.serde_json.specs.Data.{Data, null, boolean, string, array, no_items, item}
 use Rattle.serde_json.specs.View.{items_of}
@@ -52,5 +52,6 @@ result_data (Some (gives.Written sectors)) = told Bool.true (count sectors)
 result_data (Some (gives.Read bytes)) = string (encode_lower bytes)
 result_data (Some (gives.Checked changed added grown)) = told changed (pair (count added) (count grown))
 result_data (Some (gives.Pool info)) = report_data (Some (gives.Pool info))
+result_data (Some (gives.Pools infos)) = report_data (Some (gives.Pools infos))
 result_data (Some (gives.Engine table infos)) = report_data (Some (gives.Engine table infos))
 result_data (Some gives.Accepted) = string (codes "accepted")

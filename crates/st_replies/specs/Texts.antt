@@ -1,9 +1,9 @@
 -- the text of each cause
 use Rattle.std.specs.Prelude.{ℕ, List, [], ◌++◌, codes, decimal, Option, Some, None}
 use Rattle.st_units.specs.declared.cause.Member.{Member}
-use Rattle.st_units.specs.declared.cause.Member.TheVariants.{Line, Lane, Call, Name, Devices, Id, IdType, New, Pool, Filesystems, Names, Origin, Limit, Value, Sector, Hex, Fill, Sectors}
+use Rattle.st_units.specs.declared.cause.Member.TheVariants.{Line, Lane, Call, Name, Devices, Id, IdType, New, Pool, Filesystems, Names, Origin, Limit, Value, Sector, Hex, Fill, Sectors, Pools}
 use Rattle.st_units.specs.declared.cause.Cause.{Cause}
-use Rattle.st_units.specs.declared.cause.Cause.TheVariants.{BadCall, BadName, EmptyDevices, NoSuchDevice, NameInUse, DeviceInUse, DeviceTooSmall, TooManyDevices, TooManyPools, Maintenance, PoolStopped, NotEmpty, NoSuchPool, MissingDevice, PoolVanished, CacheExists, NoCache, BadSize, TooManyFilesystems, OverProvision, NoSuchFilesystem, MappingFull, LimitBelowSize, LimitLower, OutOfRange, NoSpace, DeviceFault, OutOfMemory, Worn}
+use Rattle.st_units.specs.declared.cause.Cause.TheVariants.{BadCall, BadName, EmptyDevices, NoSuchDevice, NameInUse, DeviceInUse, DeviceTooSmall, TooManyDevices, TooManyPools, Maintenance, PoolStopped, NotEmpty, NoSuchPool, MissingDevice, PoolVanished, CacheExists, NoCache, BadSize, TooManyFilesystems, OverProvision, NoSuchFilesystem, MappingFull, LimitBelowSize, LimitLower, OutOfRange, NoSpace, DeviceFault, OutOfMemory, Worn, NoOrigin, MergeConflict}
 
 -- the line, or the key of the member
 abbrev pub member_text : Member → List ℕ
@@ -25,6 +25,7 @@ member_text Sector = codes "sector"
 member_text Hex = codes "hex"
 member_text Fill = codes "fill"
 member_text Sectors = codes "sectors"
+member_text Pools = codes "pools"
 
 -- the cause's name, and each of its values behind what the value is called
 abbrev pub cause_text : Cause → List ℕ
@@ -57,6 +58,8 @@ cause_text (NoSpace free needed) = codes "NoSpace free=" ++ decimal free ++ code
 cause_text DeviceFault = codes "DeviceFault"
 cause_text OutOfMemory = codes "OutOfMemory"
 cause_text Worn = codes "Worn"
+cause_text NoOrigin = codes "NoOrigin"
+cause_text (MergeConflict name) = codes "MergeConflict name=" ++ name
 
 -- an acceptance has no text
 unfoldable pub text_of : Option Cause → List ℕ

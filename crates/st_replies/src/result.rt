@@ -119,6 +119,7 @@ pub(crate) fn result_value(alloc: Global, reply: &Reply) -> Result<Value, NoMemo
             told(alloc, *changed, counts)
         }
         Some(Given::Pool(_)) => report_value(alloc, reply),
+        Some(Given::Pools(_)) => report_value(alloc, reply),
         Some(Given::Engine(_, _)) => report_value(alloc, reply),
         Some(Given::Accepted) => Ok(Value::try_from_str(alloc, "accepted")?),
     }

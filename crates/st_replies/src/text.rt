@@ -26,6 +26,7 @@ fn member_text(member: Member) -> &'static str
         Member::Hex => "hex",
         Member::Fill => "fill",
         Member::Sectors => "sectors",
+        Member::Pools => "pools",
     }
 }
 
@@ -125,6 +126,8 @@ fn cause_text(alloc: Global, cause: &Cause) -> Result<String, NoMemory>
         Cause::DeviceFault => Ok(String::from_str(alloc, "DeviceFault")?),
         Cause::OutOfMemory => Ok(String::from_str(alloc, "OutOfMemory")?),
         Cause::Worn => Ok(String::from_str(alloc, "Worn")?),
+        Cause::NoOrigin => Ok(String::from_str(alloc, "NoOrigin")?),
+        Cause::MergeConflict(name) => one_value(alloc, "MergeConflict name=", name.as_str()),
     }
 }
 

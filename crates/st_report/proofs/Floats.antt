@@ -9,10 +9,10 @@ use Rattle.st_model.specs.declared.info.FsInfo.{FsInfo}
 use Rattle.st_model.specs.declared.info.PoolInfo.{PoolInfo}
 use Rattle.st_model.specs.declared.info.StoppedRow.{StoppedRow}
 use Rattle.st_model.specs.declared.info.TableInfo.{TableInfo}
-use Rattle.st_model.specs.steps.EngineStateReport.{place_among_stopped}
+use Rattle.st_model.specs.Shown.{place_among_stopped}
 use Rattle.st_report.specs.Values.{count_or_null, texts}
 use Rattle.st_report.specs.Engine.{pool_row, started_row, stopped_row, pool_rows, engine_data}
-use Rattle.st_report.specs.Pool.{device_data, devices_data, cache_data, origin_data, filesystem_data, filesystems_data, pool_data}
+use Rattle.st_report.specs.Pool.{device_data, devices_data, cache_data, origin_data, filesystem_data, filesystems_data, pool_data, pools_data}
 
 -- a list made of values that have none
 pub no_float-map : {A : Type 0} (f : A → Data) → ((a : A) → has_float (f a) ≡ false) → (xs : List A) → items_have_float (items_of (map f xs)) ≡ false
@@ -79,3 +79,7 @@ pub no_float-pool : (info : PoolInfo) → has_float (pool_data info) ≡ false
 unfolding pool_data devices_data filesystems_data
 no_float-pool info =
     rw (no_float-cache info.cache, no_float-map device_data no_float-device info.devs, no_float-map (filesystem_data info.serial) (no_float-filesystem info.serial) info.filesystems) refl
+
+pub no_float-pools : (infos : List PoolInfo) → has_float (pools_data infos) ≡ false
+unfolding pools_data
+no_float-pools infos = no_float-map pool_data no_float-pool infos

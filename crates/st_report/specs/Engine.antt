@@ -8,7 +8,7 @@ use Rattle.st_model.specs.declared.info.TableInfo.{TableInfo}
 use Rattle.st_model.specs.declared.info.ShownMode.{ShownMode}
 use Rattle.st_model.specs.declared.info.ShownMode.TheVariants.{Up, Down, Stopped, Unsettled, Incomplete}
 use Rattle.st_model.specs.declared.reply.Identity.TheVariants.{Pool}
-use Rattle.st_model.specs.steps.EngineStateReport.{place_among_stopped}
+use Rattle.st_model.specs.Shown.{place_among_stopped}
 use Rattle.st_report.specs.Uuids.{uuid_text}
 use Rattle.st_report.specs.Values.{count, texts}
 

@@ -37,10 +37,11 @@ unfoldable pub filesystem_data : ℕ → FsInfo → Data
 filesystem_data pool info = object (
     member (codes "limit") (count_or_null info.row.limit) (
     member (codes "mapped") (count info.mapped) (
+    member (codes "merge") (boolean info.row.merge) (
     member (codes "name") (string info.row.name) (
     member (codes "origin") (origin_data pool info.row.origin) (
     member (codes "size") (count info.row.size) (
-    member (codes "uuid") (string (uuid_text (Filesystem pool info.row.serial))) no_members))))))
+    member (codes "uuid") (string (uuid_text (Filesystem pool info.row.serial))) no_members)))))))
 
 unfoldable pub devices_data : List DevRow → Data
 devices_data rows = array (items_of (map device_data rows))
@@ -60,3 +61,7 @@ pool_data info = object (
     member (codes "room") (count info.room) (
     member (codes "used") (count info.used) (
     member (codes "uuid") (string (uuid_text (Pool info.serial))) no_members))))))))))
+
+-- several pools, in the order in which they were asked for
+unfoldable pub pools_data : List PoolInfo → Data
+pools_data infos = array (items_of (map pool_data infos))

@@ -1,6 +1,6 @@
 ghost use Rattle.std.specs.Prelude.{◌≡◌, ◌++◌, map, IfOk, OnOk};
 ghost use Rattle.serde_json.specs.View.{view};
-ghost use Rattle.st_model.specs.steps.EngineStateReport.{place_among_stopped};
+ghost use Rattle.st_model.specs.Shown.{place_among_stopped};
 ghost use Rattle.st_report.specs.Engine.{mode_text, pool_row, stopped_row, pool_rows, engine_data};
 
 use crate::identity::uuid_text;

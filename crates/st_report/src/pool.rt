@@ -1,12 +1,12 @@
 ghost use Rattle.std.specs.Prelude.{◌≡◌, ◌≤◌, ◌^◌, IfOk};
 ghost use Rattle.serde_json.specs.View.{view};
-ghost use Rattle.st_report.specs.Pool.{tier_text, device_data, devices_data, cache_data, origin_data, filesystem_data, filesystems_data, pool_data};
+ghost use Rattle.st_report.specs.Pool.{tier_text, device_data, devices_data, cache_data, origin_data, filesystem_data, filesystems_data, pool_data, pools_data};
 
 use crate::identity::uuid_text;
 use crate::values::count_or_null;
 use serde_json::{Map, Value, json, put};
 use st_model::{CacheInfo, FsInfo, Identity, PoolInfo};
-use st_units::{DevRow, NoMemory, PoolSerial, Tier};
+use st_units::{DevRow, NoMemory, PoolSerial, Shared, Tier};
 use std::alloc::Global;
 
 fn tier_text(tier: Tier) -> &'static str
@@ -79,6 +79,7 @@ fn filesystem_value(alloc: Global, pool: PoolSerial, info: &FsInfo) -> Result<Va
     let mut members = Map::new(alloc);
     put(&mut members, alloc, "limit", count_or_null(row.limit))?;
     put(&mut members, alloc, "mapped", Value::from(info.mapped))?;
+    put(&mut members, alloc, "merge", Value::from(row.merge))?;
     put(&mut members, alloc, "name", name)?;
     put(&mut members, alloc, "origin", origin)?;
     put(&mut members, alloc, "size", Value::from(row.size))?;
@@ -128,4 +129,15 @@ pub(crate) fn pool_value(alloc: Global, info: &PoolInfo) -> Result<Value, NoMemo
     put(&mut members, alloc, "used", Value::from(info.used))?;
     put(&mut members, alloc, "uuid", Value::String(uuid))?;
     Ok(Value::Object(members))
+}
+
+#[tactic(auto, unfolding(crate::specs::Pool::pools_data))]
+pub(crate) fn pools_value(alloc: Global, infos: &[Shared<PoolInfo>]) -> Result<Value, NoMemory>
+    ensures { IfOk result (λ value. view value ≡ pools_data infos.now) }
+{
+    let mut list = Vec::new(alloc);
+    for info in infos {
+        list.push(pool_value(alloc, info.value())?)?;
+    }
+    Ok(Value::Array(list))
 }

@@ -1,4 +1,3 @@
-use Rattle.std.proofs.Common.{◌≡◌, refl}
 use Rattle.st_replies.proofs.Floats.{no_float-line}
 use Rattle.st_replies.proofs.line.answer_line.Goals as goal
 

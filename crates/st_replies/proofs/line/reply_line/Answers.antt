@@ -1,5 +1,3 @@
-use Rattle.std.proofs.Common.{◌≡◌, refl}
-use Rattle.st_replies.specs.Shown.{reply_line}
 use Rattle.st_replies.proofs.Floats.{no_float-result}
 use Rattle.st_replies.proofs.line.reply_line.Goals as goal
 
