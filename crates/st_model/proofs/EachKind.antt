@@ -14,6 +14,7 @@ use Rattle.st_model.specs.Plain.{plain}
 use Rattle.st_model.specs.steps.CreateFilesystems.{create_filesystems}
 use Rattle.st_model.specs.steps.RenameFilesystem.{rename_filesystem}
 use Rattle.st_model.specs.steps.SetFsLimit.{set_fs_limit}
+use Rattle.st_model.specs.steps.SetMerge.{set_merge}
 use Rattle.st_model.specs.steps.SetOverprovisioning.{set_overprovisioning}
 use Rattle.st_model.specs.steps.SetSizeLimit.{set_size_limit}
 use Rattle.st_model.proofs.Alone.{alone_before, IsAloneFlight, AcceptedAlike, doing-kind, rename-kind, destroy-kind}
@@ -44,7 +45,7 @@ kind (SetOverprovisioning pool value) s p placed there count on flight = doing-k
 kind (FsRead pool fs sector sectors) s p placed there count on flight = (λ h. h, λ h. h)
 kind (FsWrite pool fs sector payload) s p placed there count on flight = (λ h. h, λ h. h)
 kind (Check pool) s p placed there count on flight = (λ h. h, λ h. h)
-kind (SetMerge pool fs value) s p placed there count on flight = (λ h. h, λ h. h)
+kind (SetMerge pool fs value) s p placed there count on flight = doing-kind s p pool (set_merge fs value) placed on
 kind (PoolReports pools) s p placed there count on flight = absurd on
 
 flight_alike : (s : EngineState) (p : PoolState) → IsPlaced s.devices s.pools p → AreThere s.devices p p.mode → length s.pools ≤ 16 → (o : Option Call) → flight_of p.mode ≡ o → IsOnIfAny p.name o

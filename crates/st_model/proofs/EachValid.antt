@@ -3,7 +3,7 @@ use Rattle.std.proofs.Common.{◌≡◌, ℕ, List, Bool, true, false, Option, S
 use Rattle.st_units.specs.declared.cause.Cause.TheVariants.{DeviceFault}
 use Rattle.st_units.specs.declared.rows.FsSpec.{FsSpec}
 use Rattle.st_model.specs.declared.call.Call.{Call}
-use Rattle.st_model.specs.declared.call.Call.TheVariants.{DestroyPool, StopPool, RenamePool, CreateFilesystems, RenameFilesystem, SetSizeLimit, SetFsLimit, SetOverprovisioning, PoolReport, PoolReports, EngineStateReport, PowerCycle}
+use Rattle.st_model.specs.declared.call.Call.TheVariants.{DestroyPool, StopPool, RenamePool, CreateFilesystems, RenameFilesystem, SetSizeLimit, SetFsLimit, SetOverprovisioning, PoolReport, PoolReports, EngineStateReport, PowerCycle, SetMerge}
 use Rattle.st_model.specs.declared.entry.Env.{Env}
 use Rattle.st_model.specs.declared.entry.Env.TheVariants.{Plain, NoMem, FaultRead, FaultWrite, After, Before}
 use Rattle.st_model.specs.declared.state.EngineState.{EngineState}
@@ -23,13 +23,15 @@ use Rattle.st_model.specs.Valid.{IsOn, IsValid}
 use Rattle.st_model.specs.ValidPool.{IsBefore, IsHalted, IsWhole}
 use Rattle.st_model.specs.steps.PoolReports.{pool_reports}
 use Rattle.st_model.specs.steps.RenameFilesystem.{rename_filesystem}
+use Rattle.st_model.specs.steps.SetMerge.{set_merge}
+use Rattle.st_model.proofs.ValidMerge.{set_merge-again, set_merge-whole}
 use Rattle.st_model.specs.steps.SetOverprovisioning.{set_overprovisioning}
 use Rattle.st_model.specs.steps.SetSizeLimit.{set_size_limit}
 use Rattle.st_model.specs.steps.PoolReport.{pool_report}
 use Rattle.st_model.proofs.Alone.{alone_before}
 use Rattle.st_model.proofs.Among.{up}
 use Rattle.st_model.proofs.Kept.{alone_of, doing-valid, failed-valid}
-use Rattle.st_model.proofs.LocalCalls.{overprovisioning-within, rename_fs-within, report-within, size_limit-within}
+use Rattle.st_model.proofs.LocalCalls.{overprovisioning-within, rename_fs-within, report-within, size_limit-within, set_merge-within}
 use Rattle.st_model.proofs.ValidDestroy.{destroy-valid, destroy_failed-valid}
 use Rattle.st_model.proofs.ValidFields.{overprovisioning-again, overprovisioning-whole, rename_filesystem-again, rename_filesystem-whole, size_limit-again, size_limit-whole}
 use Rattle.st_model.proofs.ValidCreateFs.{create_fs-valid, create_fs_failed-valid}
@@ -152,6 +154,22 @@ overprovisioning-call pool value = record {
   within = overprovisioning-within value;
   whole = overprovisioning-whole value;
   again = λ p. overprovisioning-again value p (up (down (SetOverprovisioning pool value) p)) refl;
+}
+
+pub set_merge-call : (pool fs : Text) (value : Bool) → IsWithinCall pool (SetMerge pool fs value) (set_merge fs value)
+set_merge-call pool fs value = record {
+  of_plain = λ s. refl;
+  of_outcome = λ s env. refl;
+  of_flight = λ s. refl;
+  of_wrote = λ s. refl;
+  takes = refl;
+  gives = refl;
+  before = λ p h. h;
+  on = λ n e. e;
+  alone = λ rows p. refl;
+  within = set_merge-within fs value;
+  whole = set_merge-whole fs value;
+  again = λ p. set_merge-again fs value p (up (down (SetMerge pool fs value) p)) refl refl;
 }
 
 reports-valid : (s : EngineState) (pools : List Text) → IsValid s → IsValid (pool_reports pools s).1

@@ -32,6 +32,7 @@ pub mod ValidDestroy
 pub mod ValidFields
 pub mod ValidLimit
 pub mod ValidMaking
+pub mod ValidMerge
 pub mod ValidRename
 pub mod ValidRenameFailed
 pub mod ValidStart

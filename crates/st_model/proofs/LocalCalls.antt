@@ -22,6 +22,7 @@ use Rattle.st_model.proofs.Inner.{IsInner, IsQuiet, only, fs_within, same_change
 use Rattle.st_model.proofs.Lifting.{named_self}
 use Rattle.st_model.proofs.Reports.{reports-local}
 use Rattle.st_model.specs.steps.RenameFilesystem.{rename_filesystem, rename_fs, rename_fs_answers}
+use Rattle.st_model.specs.steps.SetMerge.{mark_fs, merge_answers, set_merge}
 use Rattle.st_model.specs.steps.SetOverprovisioning.{overprovisioning_answers, set_overprovisioning}
 use Rattle.st_model.specs.steps.SetSizeLimit.{limit_fs, set_size_limit, size_limit_answers}
 
@@ -44,6 +45,10 @@ rename_fs-within name new = fs_within (rename_fs new) (λ fs p. unless_within (f
 pub size_limit-within : (name : Text) (limit : Option ℕ) → IsWithin (set_size_limit name limit)
 unfolding set_size_limit
 size_limit-within name limit = fs_within (limit_fs limit) (λ fs p. unless_within (first_answer (size_limit_answers limit fs p)) p _ (record { serial = refl; name = refl; mode = refl; devices = refl })) name
+
+pub set_merge-within : (name : Text) (value : Bool) → IsWithin (set_merge name value)
+unfolding set_merge
+set_merge-within name value = fs_within (mark_fs value) (λ fs p. unless_within (first_answer (merge_answers value fs p)) p _ (record { serial = refl; name = refl; mode = refl; devices = refl })) name
 
 pub overprovisioning-within : (value : Bool) → IsWithin (set_overprovisioning value)
 unfolding set_overprovisioning
@@ -109,4 +114,4 @@ outcome-local (SnapshotFilesystem pool origin new) env names mode h = inner_at p
 outcome-local (FsWrite pool fs sector payload) env names mode h = inner_at pool names _ env (cc) (unbuilt pool (FsWrite pool fs sector payload) (λ s. refl) (Some (pool, FsWrite pool fs sector payload)) (λ s. refl) (named_self pool, (refl, refl)) (λ s t a. refl) (λ s. refl))
 outcome-local (FsRead pool fs sector sectors) env names mode h = inner_at pool names _ env (cc) (unbuilt pool (FsRead pool fs sector sectors) (λ s. refl) (Some (pool, FsRead pool fs sector sectors)) (λ s. refl) (named_self pool, (refl, refl)) (λ s t a. refl) (λ s. refl))
 outcome-local (Check pool) env names mode h = inner_at pool names _ env (cc) (unbuilt pool (Check pool) (λ s. refl) (Some (pool, Check pool)) (λ s. refl) (named_self pool, (refl, refl)) (λ s t a. refl) (λ s. refl))
-outcome-local (SetMerge pool fs value) env names mode h = inner_at pool names _ env (cc) (unbuilt pool (SetMerge pool fs value) (λ s. refl) (Some (pool, SetMerge pool fs value)) (λ s. refl) (named_self pool, (refl, refl)) (λ s t a. refl) (λ s. refl))
+outcome-local (SetMerge pool fs value) env names mode h = inner_at pool names _ env (cc) (by_doing pool (SetMerge pool fs value) (set_merge fs value) (Some (pool, SetMerge pool fs value)) (λ s. refl) (set_merge-within fs value) (λ s. refl) (named_self pool, (refl, refl)) (λ s t a. refl) (λ s. refl))

@@ -1,19 +1,16 @@
 -- a call that only reads pools of several names is local to them
-use Rattle.std.proofs.Common.{◌≡◌, List, [], ◌∷◌, Bool, true, false, ◌||◌, map, Option, Some, bytes_eq, refl, ap, ◌∙◌}
+use Rattle.std.proofs.Common.{◌≡◌, List, [], ◌∷◌, Bool, true, false, ◌||◌, bytes_eq, refl, ap, ◌∙◌}
 use Rattle.std.specs.List.{AllByRecursion}
 use Rattle.std.proofs.lemmas.Slice.Eq.{bytes_eq-Decides}
-use Rattle.st_model.specs.declared.reply.Reply.{Reply}
 use Rattle.st_model.specs.declared.state.EngineState.{EngineState}
-use Rattle.st_model.specs.declared.state.PoolState.{PoolState}
 use Rattle.st_model.specs.Look.{Text, distinct, has_path}
 use Rattle.st_model.proofs.Lists.{All-distinct, All-weaker}
-use Rattle.st_model.specs.Lifted.{is_known}
 use Rattle.st_model.specs.Local.{AreAlike, IsLocal, Leaves, LeavesIfAny, where_so}
 use Rattle.st_model.specs.Sound.{are_few}
 use Rattle.st_model.specs.steps.PoolReports.{pool_reports, reports, seen}
 use Rattle.st_wants.proofs.Rising.{are_names_of}
 use Rattle.st_wants.specs.Names.{is_named, names_of}
-use Rattle.st_model.specs.Parts.{AgreeOn, own}
+use Rattle.st_model.specs.Parts.{AgreeOn}
 use Rattle.st_model.proofs.Lifting.{same_known}
 
 or_right : (a b : Bool) → b ≡ true → (a || b) ≡ true

@@ -1,20 +1,18 @@
 -- a pool stays whole where rows of its filesystems change
-use Rattle.std.proofs.Common.{◌≡◌, ◌≢◌, ℕ, ◌+◌, ◌*◌, ◌/◌, ◌<◌, ◌≤◌, ◌==◌, ◌&&◌, ◌||◌, List, [], ◌∷◌, length, Bool, true, false, cond, map, Option, Some, None, refl, sym, ap, ◌∙◌, subst, arith}
-use Rattle.std.specs.List.{AllByRecursion, list_any, sum_by}
+use Rattle.std.proofs.Common.{◌≡◌, ℕ, ◌+◌, ◌/◌, ◌<◌, ◌≤◌, ◌==◌, ◌&&◌, ◌||◌, List, [], ◌∷◌, length, Bool, true, false, map, Option, Some, None, refl, sym, ap, ◌∙◌, subst, arith}
+use Rattle.std.specs.List.{AllByRecursion, list_any}
 use Rattle.std.proofs.lemmas.List.{length-map}
 use Rattle.std.proofs.lemmas.Nat.{le-div}
 use Rattle.std.proofs.Math.Nat.{div-mul-le_self}
 use Rattle.st_limits.specs.declared.TheConstants.{MAX_COMMITS}
-use Rattle.st_units.specs.declared.rows.FsRow.{FsRow}
 use Rattle.st_model.specs.declared.state.FsState.{FsState}
 use Rattle.st_model.specs.declared.state.PoolState.{PoolState}
-use Rattle.st_model.specs.Checks.{with_row, rows_changed}
 use Rattle.st_model.specs.Merged.{is_mapped}
 use Rattle.st_model.specs.ValidPool.{EachPair, has_serial, is_marked, IsSize, IsLimit, IsOrigin, IsMark, IsMapping, IsValidFs, AreFsPair, IsCell, IsWhole}
 use Rattle.st_model.proofs.Among.{All-with}
-use Rattle.st_model.proofs.Lists.{All-weaker, All-map, EachPair-map}
+use Rattle.st_model.proofs.Lists.{All-weaker, All-map}
 use Rattle.st_model.proofs.Replacing.{IsFitting}
-use Rattle.st_model.proofs.Totals.{total, total-is, total-map}
+use Rattle.st_model.proofs.Totals.{total, total-is}
 use Rattle.st_model.proofs.Whole.{cache_alike}
 
 -- the maps stay as they are

@@ -3,7 +3,7 @@ use Rattle.std.proofs.Common.{◌≡◌, ℕ, ◌==◌, not, List, [], ◌∷◌
 use Rattle.std.specs.List.{AllByRecursion}
 use Rattle.st_units.specs.declared.cause.Cause.TheVariants.{DeviceFault}
 use Rattle.st_model.specs.declared.call.Call.{Call}
-use Rattle.st_model.specs.declared.call.Call.TheVariants.{CreatePool, StopPool, StartPool, RenamePool, CreateFilesystems, SetFsLimit, PoolReport, EngineStateReport, RenameFilesystem, SetSizeLimit, SetOverprovisioning, DestroyPool, PoolReports, PowerCycle}
+use Rattle.st_model.specs.declared.call.Call.TheVariants.{CreatePool, StopPool, StartPool, RenamePool, CreateFilesystems, SetFsLimit, PoolReport, EngineStateReport, RenameFilesystem, SetSizeLimit, SetOverprovisioning, DestroyPool, PoolReports, PowerCycle, SetMerge}
 use Rattle.st_model.specs.declared.call.PoolId.{PoolId}
 use Rattle.st_model.specs.declared.entry.Env.{Env}
 use Rattle.st_model.specs.declared.entry.Env.TheVariants.{Plain, NoMem, FaultRead, FaultWrite, After, Before}
@@ -28,10 +28,12 @@ use Rattle.st_model.specs.steps.StartPool.{pool_meant, is_meant, start_pool, sta
 use Rattle.st_model.proofs.Among.{IsPlaced, all_placed, All-with, same_number}
 use Rattle.st_model.proofs.EachKind.{IsGood, valid-good}
 use Rattle.st_model.proofs.FoundByLaw.{found_renamed-valid}
-use Rattle.st_model.proofs.LocalCalls.{create-within, limit-within, overprovisioning-within, rename_fs-within, size_limit-within}
+use Rattle.st_model.proofs.LocalCalls.{create-within, limit-within, overprovisioning-within, rename_fs-within, size_limit-within, set_merge-within}
 use Rattle.st_model.proofs.ValidDestroy.{found_destroyed-valid}
 use Rattle.st_model.proofs.ValidFields.{overprovisioning-whole, rename_filesystem-whole, size_limit-whole}
 use Rattle.st_model.specs.steps.RenameFilesystem.{rename_filesystem}
+use Rattle.st_model.specs.steps.SetMerge.{set_merge}
+use Rattle.st_model.proofs.ValidMerge.{set_merge-whole}
 use Rattle.st_model.specs.steps.SetOverprovisioning.{set_overprovisioning}
 use Rattle.st_model.specs.steps.SetSizeLimit.{set_size_limit}
 use Rattle.st_model.proofs.Replaced.{vanished-valid}
@@ -104,6 +106,8 @@ after-valid s p v met (SetSizeLimit pool fs limit) up =
     found_doing-valid s p pool (set_size_limit fs limit) v met.placed met.good (halted_of s p _ met up (λ h. h)) (rows_of s p _ met up) (on_of s p _ met up) (size_limit-within fs limit) (size_limit-whole fs limit)
 after-valid s p v met (SetOverprovisioning pool value) up =
     found_doing-valid s p pool (set_overprovisioning value) v met.placed met.good (halted_of s p _ met up (λ h. h)) (rows_of s p _ met up) (on_of s p _ met up) (overprovisioning-within value) (overprovisioning-whole value)
+after-valid s p v met (SetMerge pool fs value) up =
+    found_doing-valid s p pool (set_merge fs value) v met.placed met.good (halted_of s p _ met up (λ h. h)) (rows_of s p _ met up) (on_of s p _ met up) (set_merge-within fs value) (set_merge-whole fs value)
 after-valid s p v met (DestroyPool name) up =
     found_destroyed-valid s p name v met.placed (halted_of s p _ met up (λ h. h)) (rows_of s p _ met up) met.good (on_of s p _ met up)
 after-valid s p v met (StopPool name) up = absurd (on_of s p _ met up)

@@ -1,5 +1,5 @@
 -- DestroyPool keeps validity: as a call, as a call whose write failed, and as a call in flight that a start found done
-use Rattle.std.proofs.Common.{◌≡◌, ℕ, ◌==◌, ◌&&◌, not, List, [], ◌∷◌, length, Bool, true, false, cond, find, Option, Some, None, refl, sym, ap, ◌∙◌, subst}
+use Rattle.std.proofs.Common.{◌≡◌, ◌==◌, not, List, [], ◌∷◌, length, Bool, true, false, find, Option, Some, None, refl, sym, ap, ◌∙◌, subst}
 use Rattle.std.specs.List.{AllByRecursion}
 use Rattle.st_units.specs.declared.cause.Cause.TheVariants.{NotEmpty, Worn}
 use Rattle.st_units.specs.declared.rows.DevRow.{DevRow}

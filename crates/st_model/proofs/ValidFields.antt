@@ -1,6 +1,6 @@
 -- calls that set a field of a filesystem or of the pool keep validity, also where their write fails
-use Rattle.std.proofs.Common.{◌≡◌, ◌≢◌, ℕ, ◌+◌, ◌<◌, ◌≤◌, ◌==◌, ◌&&◌, ◌⊎◌, inl, inr, List, [], ◌∷◌, length, Bool, true, false, cond, not, nat_lt, map, Option, Some, None, is_some, bytes_eq, refl, sym, ap, ◌∙◌, subst, arith}
-use Rattle.std.specs.List.{AllByRecursion, find}
+use Rattle.std.proofs.Common.{◌≡◌, ◌≢◌, ℕ, ◌+◌, ◌<◌, ◌==◌, ◌&&◌, ◌⊎◌, inl, inr, List, [], ◌∷◌, Bool, true, false, cond, not, map, Option, Some, None, bytes_eq, refl, sym, ◌∙◌, subst, arith}
+use Rattle.std.specs.List.{AllByRecursion}
 use Rattle.std.proofs.lemmas.Grind.{common_steps}
 use Rattle.std.proofs.lemmas.Slice.Eq.{bytes_eq-Decides}
 use Rattle.st_units.specs.declared.cause.Cause.TheVariants.{BadSize, LimitBelowSize, NameInUse, OverProvision, Worn}
@@ -8,21 +8,19 @@ use Rattle.st_model.specs.declared.reply.Given.TheVariants.{Changed, Done}
 use Rattle.st_model.specs.declared.reply.Reply.{Reply}
 use Rattle.st_model.specs.declared.state.FsState.{FsState}
 use Rattle.st_model.specs.declared.state.PoolState.{PoolState}
-use Rattle.st_model.specs.Answer.{accepted, first_answer, unless_answered, refused_where}
-use Rattle.st_model.specs.Checks.{fs_at, in_fs, on_fs, is_below, is_no_size, is_size, rows_changed, with_row, down}
-use Rattle.st_model.specs.Lifted.{IsWithin, SameOutside}
+use Rattle.st_model.specs.Answer.{accepted, first_answer}
+use Rattle.st_model.specs.Checks.{fs_at, in_fs, on_fs, is_below, is_no_size, is_size, rows_changed, with_row}
 use Rattle.st_model.specs.Look.{Text}
 use Rattle.st_model.specs.Step.{changes}
-use Rattle.st_model.specs.ValidPool.{EachPair, IsSize, IsLimit, IsValidFs, AreFsPair, IsWhole}
+use Rattle.st_model.specs.ValidPool.{EachPair, IsLimit, IsValidFs, AreFsPair, IsWhole}
 use Rattle.st_model.specs.steps.RenameFilesystem.{named, rename_fs, rename_fs_answers, rename_filesystem}
-use Rattle.st_model.specs.steps.SetOverprovisioning.{overprovisioning_answers, same_truth, set_overprovisioning}
-use Rattle.st_model.specs.steps.SetSizeLimit.{limited, limit_fs, same_limit, set_size_limit, size_limit_answers}
+use Rattle.st_model.specs.steps.SetOverprovisioning.{overprovisioning_answers, set_overprovisioning}
+use Rattle.st_model.specs.steps.SetSizeLimit.{limited, limit_fs, set_size_limit, size_limit_answers}
 use Rattle.st_model.proofs.Among.{IsIn, All-with, all_beside, up}
 use Rattle.st_model.proofs.Answers0.{IsNoChange, changed-unanswered, no_change_where, none_answers, not_there, not_worn, so_not, whole_unless}
 use Rattle.st_model.proofs.Flights.{found-holds}
 use Rattle.st_model.proofs.Lists.{All-weaker, EachPair-map, none_found}
-use Rattle.st_model.proofs.Inner.{fs_within, unless_within}
-use Rattle.st_model.proofs.Rowed.{KeepsMap, KeepsLine, IsSized, lines_fit, whole-rowed}
+use Rattle.st_model.proofs.Rowed.{KeepsLine, IsSized, lines_fit, whole-rowed}
 use Rattle.st_model.proofs.ValidCreateFs.{size_is}
 use Rattle.st_model.proofs.ValidRename.{EachPair-with}
 use Rattle.st_model.proofs.Whole.{same_parts, whole-commit}

@@ -18,7 +18,7 @@ use Rattle.st_model.specs.Local.{Outcome}
 use Rattle.st_model.specs.Step.{is_changed, wrote, outcome}
 use Rattle.st_model.specs.Valid.{IsValid}
 use Rattle.st_model.proofs.Answers0.{IsNoChange, changed-unanswered, no_change_where}
-use Rattle.st_model.proofs.EachValid.{usual-valid, where-if, rename_pool-keeps, stop-keeps, create_fs-keeps, limit-keeps, report-keeps, engine-keeps, within-keeps, rename_fs-call, size_limit-call, overprovisioning-call, reports-keeps, destroy-keeps, cycle-keeps}
+use Rattle.st_model.proofs.EachValid.{usual-valid, where-if, rename_pool-keeps, stop-keeps, create_fs-keeps, limit-keeps, report-keeps, engine-keeps, within-keeps, rename_fs-call, size_limit-call, overprovisioning-call, reports-keeps, destroy-keeps, cycle-keeps, set_merge-call}
 use Rattle.st_model.proofs.StartKeeps.{start-keeps}
 use Rattle.st_model.proofs.ValidMaking.{create-valid, broken-valid}
 use Rattle.st_model.proofs.ValidStart.{IsValidAfter, where-valid}
@@ -71,7 +71,7 @@ outcome-keeps s (SetOverprovisioning pool value) env v = within-keeps pool _ _ (
 outcome-keeps s (FsRead pool fs sector sectors) env v = usual-valid s (FsRead pool fs sector sectors) env v tt (λ h. absurd cc)
 outcome-keeps s (Check pool) env v = usual-valid s (Check pool) env v tt (λ h. absurd cc)
 outcome-keeps s (FsWrite pool fs sector payload) env v = usual-valid s (FsWrite pool fs sector payload) env v tt (λ h. absurd cc)
-outcome-keeps s (SetMerge pool fs value) env v = usual-valid s (SetMerge pool fs value) env v tt (λ h. absurd cc)
+outcome-keeps s (SetMerge pool fs value) env v = within-keeps pool _ _ (set_merge-call pool fs value) s env v
 outcome-keeps s (PoolReports pools) env v = reports-keeps s pools env v
 outcome-keeps s PowerCycle env v = cycle-keeps s env v
 

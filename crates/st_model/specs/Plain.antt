@@ -1,7 +1,7 @@
 -- what a call answers and leaves where it meets nothing: one line a call; none where a start finds a call in flight
 use Rattle.std.specs.Prelude.{Some, None}
 use Rattle.st_model.specs.declared.call.Call.{Call}
-use Rattle.st_model.specs.declared.call.Call.TheVariants.{CreatePool, DestroyPool, StopPool, StartPool, RenamePool, CreateFilesystems, RenameFilesystem, SetSizeLimit, SetFsLimit, SetOverprovisioning, PoolReport, PoolReports, EngineStateReport, PowerCycle}
+use Rattle.st_model.specs.declared.call.Call.TheVariants.{CreatePool, DestroyPool, StopPool, StartPool, RenamePool, CreateFilesystems, RenameFilesystem, SetSizeLimit, SetFsLimit, SetOverprovisioning, SetMerge, PoolReport, PoolReports, EngineStateReport, PowerCycle}
 use Rattle.st_model.specs.declared.state.EngineState.{EngineState}
 use Rattle.st_model.specs.steps.CreatePool.{create_plain}
 use Rattle.st_model.specs.steps.EngineStateReport.{report_plain}
@@ -14,6 +14,7 @@ use Rattle.st_model.specs.steps.PoolReport.{pool_report}
 use Rattle.st_model.specs.steps.PoolReports.{pool_reports}
 use Rattle.st_model.specs.steps.PowerCycle.{power_cycle}
 use Rattle.st_model.specs.steps.RenameFilesystem.{rename_filesystem}
+use Rattle.st_model.specs.steps.SetMerge.{set_merge}
 use Rattle.st_model.specs.steps.SetOverprovisioning.{set_overprovisioning}
 use Rattle.st_model.specs.steps.SetSizeLimit.{set_size_limit}
 use Rattle.st_model.specs.steps.RenamePool.{rename_pool}
@@ -33,6 +34,7 @@ plain s (PoolReport pool) = Some (on_pool pool pool_report s)
 plain s (RenameFilesystem pool name new) = Some (on_pool pool (rename_filesystem name new) s)
 plain s (SetSizeLimit pool name limit) = Some (on_pool pool (set_size_limit name limit) s)
 plain s (SetOverprovisioning pool value) = Some (on_pool pool (set_overprovisioning value) s)
+plain s (SetMerge pool name value) = Some (on_pool pool (set_merge name value) s)
 plain s (PoolReports pools) = where_so (are_few pools) (pool_reports pools s)
 plain s EngineStateReport = Some (report_plain s)
 plain s PowerCycle = Some (power_cycle s)

@@ -8,6 +8,7 @@ pub mod PowerCycle
 pub mod RenameFilesystem
 pub mod RenamePool
 pub mod SetFsLimit
+pub mod SetMerge
 pub mod SetOverprovisioning
 pub mod SetSizeLimit
 pub mod StartPool

@@ -1,8 +1,8 @@
 -- CreateFilesystems: new filesystems, all or none
-use Rattle.std.specs.Prelude.{ℕ, ◌+◌, ◌%◌, ◌/◌, ◌==◌, nat_le, nat_lt, List, [], ◌∷◌, ◌++◌, length, sum_by, map, filter, find, Bool, true, false, not, ◌&&◌, ◌||◌, Option, Some, None, is_some, option_map, unwrap_or, bytes_eq, if◌then◌else◌}
-use Rattle.st_limits.specs.declared.TheConstants.{BLOCK_SECTORS, DEFAULT_FS_SECTORS, MAX_FS_SECTORS}
+use Rattle.std.specs.Prelude.{ℕ, ◌+◌, ◌==◌, nat_lt, List, [], ◌∷◌, ◌++◌, length, map, filter, find, Bool, true, false, not, ◌||◌, Option, Some, None, is_some, option_map, unwrap_or, bytes_eq, if◌then◌else◌}
+use Rattle.st_limits.specs.declared.TheConstants.{DEFAULT_FS_SECTORS}
 use Rattle.st_units.specs.declared.cause.Cause.{Cause}
-use Rattle.st_units.specs.declared.cause.Cause.TheVariants.{BadSize, LimitBelowSize, TooManyFilesystems, OverProvision}
+use Rattle.st_units.specs.declared.cause.Cause.TheVariants.{BadSize, LimitBelowSize, TooManyFilesystems}
 use Rattle.st_units.specs.declared.rows.FsSpec.{FsSpec}
 use Rattle.st_model.specs.declared.reply.Given.TheVariants.{CreatedFilesystems}
 use Rattle.st_model.specs.declared.reply.Identity.TheVariants.{Filesystem}

@@ -1,5 +1,5 @@
 -- DestroyPool: the pool is known no more, and its devices are free
-use Rattle.std.specs.Prelude.{◌==◌, not, List, [], ◌∷◌, length, Bool, true, false, Option, Some, None}
+use Rattle.std.specs.Prelude.{◌==◌, not, List, [], ◌∷◌, length, true, false, Option, Some, None}
 use Rattle.st_units.specs.declared.cause.Cause.TheVariants.{NotEmpty}
 use Rattle.st_model.specs.declared.reply.Given.TheVariants.{Changed}
 use Rattle.st_model.specs.declared.reply.Identity.TheVariants.{Pool}

@@ -1,5 +1,5 @@
 -- RenameFilesystem: another name for a filesystem
-use Rattle.std.specs.Prelude.{List, [], ◌∷◌, Bool, true, false, Option, Some, None, is_some, bytes_eq, if◌then◌else◌}
+use Rattle.std.specs.Prelude.{List, [], ◌∷◌, true, false, Option, Some, None, is_some, bytes_eq, if◌then◌else◌}
 use Rattle.st_units.specs.declared.cause.Cause.TheVariants.{NameInUse}
 use Rattle.st_units.specs.declared.rows.FsRow.{FsRow}
 use Rattle.st_model.specs.declared.reply.Given.TheVariants.{Changed}
