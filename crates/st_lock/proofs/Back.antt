@@ -2,8 +2,8 @@
 use Rattle.std.proofs.Common.{ℕ, ◌≡◌, ◌+◌, ◌<◌, ◌≤◌, ◌^◌, ◌==◌, inl, inr, Bool, true, false, cond, List, [], ◌∷◌, ◌++◌, map, filter, length, refl, ap, sym, ◌∙◌, subst, arith, length-append}
 use Rattle.std.specs.Prelude.{Option, IfSome, IsSomeAnd, is_some, option_map, bytes_eq}
 use Rattle.std.specs.List.{AllByRecursion}
-use Rattle.std.specs.Prelude.{Some as Just, None}
-use Rattle.std.specs.Option.{option_to_list}
+use Rattle.std.specs.Prelude.{Some, None}
+use Rattle.std.specs.Cmp.Lexicographic.{nat_list_eq_equiv}
 use Rattle.std.proofs.lemmas.List.{map-append}
 use Rattle.std.proofs.lemmas.List.Elements.{filter-append}
 use Rattle.std.proofs.lemmas.Bool.Decides.{nat_tests}
@@ -11,17 +11,18 @@ use mathlib.Core.List.{IsPrefix}
 use Rattle.st_turn.specs.Lists.{told_by}
 use Rattle.st_wants.specs.declared.row.LockRow.{LockRow}
 use Rattle.st_wants.specs.declared.want.Want.{Want}
-use Rattle.st_wants.specs.declared.want.Want.TheVariants.{Some, All}
+use Rattle.st_wants.specs.declared.want.Want.TheVariants as wants
 use Rattle.st_wants.specs.declared.want.Mode.TheVariants.{Read, Write}
 use Rattle.st_wants.specs.Lock.{Lock, row_at, start, IsLive}
 use Rattle.st_wants.specs.Rules.{lock_run}
+use Rattle.st_wants.specs.Wants.{writes, takes_table}
 use Rattle.st_model.specs.declared.entry.Entry.{Entry}
 use Rattle.st_model.specs.declared.state.EngineState.{EngineState}
 use Rattle.st_model.specs.declared.state.PoolState.{PoolState}
 use Rattle.st_model.specs.Look.{is_started}
 use Rattle.st_model.specs.declared.info.TableInfo.{TableInfo}
 use Rattle.st_model.specs.declared.state.TableState.{TableState}
-use Rattle.st_model.specs.Parts.{Agree, pool_at, started, table_of, shown_table}
+use Rattle.st_model.specs.Parts.{Agree, own, pool_at, started, table_of, shown_table}
 use Rattle.st_model.specs.Valid.{IsValid}
 use Rattle.st_history.specs.declared.log.Event.{Event}
 use Rattle.st_history.specs.Failures.{failures_of}
@@ -37,11 +38,9 @@ use Rattle.st_grants.proofs.Sound.{some_and}
 use Rattle.st_model.specs.declared.info.PoolInfo.{PoolInfo}
 use Rattle.st_model.specs.Look.{Text}
 use Rattle.st_model.specs.Shown.{pool_info}
-use Rattle.st_book.specs.Effects.{IsFitting, info_at}
-use Rattle.st_book.proofs.Named.{name_found, same_found}
-use Rattle.st_book.proofs.Pools.{name_of}
+use Rattle.st_model.specs.Pieces.{ArePools, ShowPools, every, info_at}
 use Rattle.st_book.specs.Noted.{noted_log, grant_with, IsNoted}
-use Rattle.st_book.specs.Stands.{Stands, InfosShow, PartStands, ComesBack}
+use Rattle.st_book.specs.Stands.{Stands, PartStands, ComesBack}
 use Rattle.st_book.specs.View.{BookView, TableView, lent_at}
 use Rattle.st_book.proofs.Released.{part_fits}
 use Rattle.st_lock.specs.Held.{Rose}
@@ -49,12 +48,26 @@ use Rattle.st_lock.specs.Opening.{noted_by, events_of, Fits}
 use Rattle.st_lock.specs.Seats.{LockSeat, state_at, own_row, IsHeard}
 use Rattle.st_lock.proofs.Turns.{events-noted, own-events}
 
+-- states that agree on a want have the same pools that it writes, and the same table
+agree_writes : (w : Want) (s t : EngineState) (n : Text) → Agree w s t → writes w n ≡ true → own n s ≡ own n t
+agree_writes (wants.Some names Read) s t n h e = absurd cc
+agree_writes (wants.Some names Write) s t n h e = h.pools n e
+agree_writes (wants.All mode) s t n h e = ap (own n) h
+
+agree_table : (w : Want) (s t : EngineState) → Agree w s t → table_of s ≡ table_of t
+agree_table (wants.Some names mode) s t h = h.table
+agree_table (wants.All mode) s t h = ap table_of h
+
 -- the part stands for each state that agrees
 pub part-over : (w : Want) (s t : EngineState) (cells : List PoolState) (table : Option TableView) → Agree w s t → PartStands w s cells table → PartStands w t cells table
-part-over (Some n Write) s t cells table h p = (p.0 ∙ ap option_to_list h.0, p.1)
-part-over (Some n Read) s t cells table h p = p
-part-over (All Write) s t cells table h p = subst (λ z. PartStands (All Write) z cells table) h p
-part-over (All Read) s t cells table h p = p
+part-over w s t cells table h p = record {
+  pools = record { apart = p.pools.apart; found = λ n. p.pools.found n ∙ here n (writes w n) refl };
+  board = p.board ∙ ap (λ z. cond (takes_table w) (Some z) None) (agree_table w s t h);
+}
+  where
+    here : (n : Text) (b : Bool) → writes w n ≡ b → cond b (own n s) None ≡ cond b (own n t) None
+    here n true e = agree_writes w s t n h e
+    here n false e = refl
 
 -- so what comes back after one state comes back after the other
 pub back-over : (w : Want) (s t : EngineState) (base : ℕ) (es : List Entry) (cells : List PoolState) (table : Option TableView) → IsValid s → IsValid t → Agree w s t → ComesBack w s base es cells table → ComesBack w t base es cells table
@@ -68,19 +81,17 @@ back-over w s t base es cells table v u h back =
       slack = back.slack;
     }
 
-few_of : (o : Option PoolState) → length (option_to_list o) ≤ 1
-few_of None = omega arith
-few_of (Just p) = omega arith
+viewed_some : {A B : Type 0} (f : A → B) (o : Option A) → is_some (option_map f o) ≡ is_some o
+viewed_some f None = refl
+viewed_some f (Some a) = refl
 
-there_of : (o : Option TableView) (P : TableView → Type 0) → IsSomeAnd o P → is_some o ≡ true
-there_of None P h = absurd h
-there_of (Just v) P h = refl
-
-pub fitting-of : (w : Want) (s : EngineState) (cells : List PoolState) (table : Option TableView) → PartStands w s cells table → IsFitting w (length cells) (is_some table)
-fitting-of (Some n Write) s cells table p = (let few = few_of (pool_at n (started s)) in rw p.0 few, ap is_some p.1)
-fitting-of (Some n Read) s cells table p = (ap length p.0, ap is_some p.1)
-fitting-of (All Write) s cells table p = there_of table _ p.2
-fitting-of (All Read) s cells table p = (ap length p.0, ap is_some p.1)
+-- a table comes back just of a want that takes it
+fitting-of : (w : Want) (s : EngineState) (cells : List PoolState) (table : Option TableView) → PartStands w s cells table → is_some table ≡ takes_table w
+fitting-of w s cells table p = sym (viewed_some (λ (v : TableView). v.state) table) ∙ (ap is_some p.board ∙ here (takes_table w))
+  where
+    here : (b : Bool) → is_some (cond b (Some (table_of s)) None) ≡ b
+    here true = refl
+    here false = refl
 
 nothing_more : {A : Type 0} (xs zs : List A) → xs ++ zs ≡ xs → zs ≡ []
 nothing_more {A} xs [] h = refl
@@ -115,19 +126,19 @@ module _ (v : LockSeat) (b : BookView) (t : ℕ) (r : LockRow) (p : IsPrefix v.s
   log_own = ap (own_of v.number) (sym (events-noted b.log b.notes)) ∙ (own-events v.number (noted_log b.log b.notes) ∙ ap events_of own)
 
   -- the ticket's row is what the own events tell
-  pub own_at : own_row t v ≡ Just r → row_at t b.lock.rows ≡ Just r
+  pub own_at : own_row t v ≡ Some r → row_at t b.lock.rows ≡ Some r
   own_at told =
-      let there = own-told v.opening.state b.log v.number t r fits.stands.history (subst (λ z. row_told t z ≡ Just r) (sym log_own) told) in
-      subst (λ (l : Lock). row_at t l.rows ≡ Just r) (sym fits.stands.lock) there.0
+      let there = own-told v.opening.state b.log v.number t r fits.stands.history (subst (λ z. row_told t z ≡ Some r) (sym log_own) told) in
+      subst (λ (l : Lock). row_at t l.rows ≡ Some r) (sym fits.stands.lock) there.0
 
-  pub own_seat : own_row t v ≡ Just r → r.seat ≡ v.number
-  own_seat told = (own-told v.opening.state b.log v.number t r fits.stands.history (subst (λ z. row_told t z ≡ Just r) (sym log_own) told)).1
+  pub own_seat : own_row t v ≡ Some r → r.seat ≡ v.number
+  own_seat told = (own-told v.opening.state b.log v.number t r fits.stands.history (subst (λ z. row_told t z ≡ Some r) (sym log_own) told)).1
 
   -- the log that was seen, and the rest
   cut : events_of v.seen ++ events_of p.0 ≡ b.log
   cut = sym (map-append (λ (x : Noted). x.event) v.seen p.0) ∙ (ap events_of p.1 ∙ events-noted b.log b.notes)
 
-  pub agrees : IsHeard v → own_row t v ≡ Just r → r.live ≡ true → Agree r.want (state_at v) (replay v.opening.state b.log)
+  pub agrees : IsHeard v → own_row t v ≡ Some r → r.live ≡ true → Agree r.want (state_at v) (replay v.opening.state b.log)
   agrees heard told live =
       let xs = events_of v.seen in
       let ys = events_of p.0 in
@@ -138,7 +149,7 @@ module _ (v : LockSeat) (b : BookView) (t : ℕ) (r : LockRow) (p : IsPrefix v.s
       let none : own_of v.number ys ≡ [] = nothing_more (events_of v.own) (own_of v.number ys) (ap (λ z. z ++ own_of v.number ys) (sym seen_own) ∙ (sym both ∙ whole)) in
       let hist : History s (xs ++ ys) = subst (λ z. History s z) (sym cut) fits.stands.history in
       let parts = history-split start s xs ys hist in
-      let there = own-told s xs v.number t r parts.0 (subst (λ z. row_told t z ≡ Just r) (sym seen_own) told) in
+      let there = own-told s xs v.number t r parts.0 (subst (λ z. row_told t z ≡ Some r) (sym seen_own) told) in
       let kept = none-released v.number t (lock_run start (moves_of xs)) (replay s xs) r ys parts.1 there.0 there.1 none in
       subst (λ z. Agree r.want (replay s xs) (replay s z)) cut (logs-agree s xs ys t r hist there.0 live kept)
 
@@ -148,11 +159,11 @@ module _ (v : LockSeat) (b : BookView) (t : ℕ) (r : LockRow) (p : IsPrefix v.s
   pub valid_now : IsValid (replay v.opening.state b.log)
   valid_now = valid_replay v.opening.state b.log fits.valid
 
-  pub comes_back : (es : List Entry) (cells : List PoolState) (table : Option TableView) → IsHeard v → own_row t v ≡ Just r → r.live ≡ true
+  pub comes_back : (es : List Entry) (cells : List PoolState) (table : Option TableView) → IsHeard v → own_row t v ≡ Some r → r.live ≡ true
       → ComesBack r.want (state_at v) v.opening.base es cells table → ComesBack r.want (replay v.opening.state b.log) v.opening.base es cells table
   comes_back es cells table heard told live back = back-over r.want (state_at v) (replay v.opening.state b.log) v.opening.base es cells table valid_seen valid_now (agrees heard told live) back
 
-  pub few_back : (es : List Entry) (cells : List PoolState) (table : Option TableView) → IsHeard v → own_row t v ≡ Just r → r.live ≡ true
+  pub few_back : (es : List Entry) (cells : List PoolState) (table : Option TableView) → IsHeard v → own_row t v ≡ Some r → r.live ≡ true
       → ComesBack r.want (state_at v) v.opening.base es cells table → length b.cells + length cells ≤ 16
   few_back es cells table heard told live back =
       let s = v.opening.state in
@@ -170,7 +181,7 @@ module _ (v : LockSeat) (b : BookView) (t : ℕ) (r : LockRow) (p : IsPrefix v.s
       let one : length (events_of v.seen) ≡ length v.seen = events_len v.seen in
       omega arith
 
-  pub lent_rose : (faults more : ℕ) → own_row t v ≡ Just r → r.live ≡ true → Rose v t faults more → length b.log < 2 ^ 62 → faults ≡ lent_at t b.lent + more
+  pub lent_rose : (faults more : ℕ) → own_row t v ≡ Some r → r.live ≡ true → Rose v t faults more → length b.log < 2 ^ 62 → faults ≡ lent_at t b.lent + more
   lent_rose faults more told live rose k =
       let there : IsNoted (grant_with v.number t rose.number) (noted_log b.log b.notes) = noted_own v.number (grant_with v.number t rose.number) (noted_log b.log b.notes) (subst (λ z. IsNoted (grant_with v.number t rose.number) z) (sym own) rose.noted) in
       let alive : IsLive b.lock t = rw (own_at told) live in
@@ -178,35 +189,33 @@ module _ (v : LockSeat) (b : BookView) (t : ℕ) (r : LockRow) (p : IsPrefix v.s
       let f = rose.rose (short_seen k) in
       omega arith
 
+-- what holds of each name that is found holds of all names
+all_found : (P : Text → Type 0) (cells : List PoolState) → ((n : Text) → is_some (pool_at n cells) ≡ true → P n) → AllByRecursion (λ (x : PoolState). P x.name) cells
+all_found P [] h = tt
+all_found P (x ∷ xs) h = (
+  h x.name (ap (λ b. is_some (cond b (Some x) (pool_at x.name xs))) (nat_list_eq_equiv.refl x.name)),
+  all_found P xs (λ n k. h n (more n (bytes_eq x.name n) k)),
+)
+  where
+    more : (n : Text) (b : Bool) → is_some (pool_at n xs) ≡ true → is_some (cond b (Some x) (pool_at n xs)) ≡ true
+    more n true k = refl
+    more n false k = k
+
 -- Of each pool that comes back the two states have the same.
 same_for : (w : Want) (s t z : EngineState) (cells : List PoolState) (table : Option TableView) → Agree w s t → PartStands w z cells table → AllByRecursion (λ (x : PoolState). pool_at x.name (started s) ≡ pool_at x.name (started t)) cells
-same_for (Some n Write) s t z cells table h p = subst (λ xs. AllByRecursion (λ (x : PoolState). pool_at x.name (started s) ≡ pool_at x.name (started t)) xs) (sym p.0) (cases (pool_at n (started z)) refl)
+same_for w s t z cells table h p = all_found (λ n. own n s ≡ own n t) cells (λ n k. here n (writes w n) refl (sym (ap is_some (p.pools.found n)) ∙ k))
   where
-    cases : (o : Option PoolState) → pool_at n (started z) ≡ o → AllByRecursion (λ (x : PoolState). pool_at x.name (started s) ≡ pool_at x.name (started t)) (option_to_list o)
-    cases None e = tt
-    cases (Just q) e =
-        let named : bytes_eq q.name n ≡ true = name_found name_of n (started z) q e in
-        (same_found name_of q.name n (started s) named ∙ (h.0 ∙ sym (same_found name_of q.name n (started t) named)), tt)
-same_for (Some n Read) s t z cells table h p = subst (λ xs. AllByRecursion (λ (x : PoolState). pool_at x.name (started s) ≡ pool_at x.name (started t)) xs) (sym p.0) tt
-same_for (All Read) s t z cells table h p = subst (λ xs. AllByRecursion (λ (x : PoolState). pool_at x.name (started s) ≡ pool_at x.name (started t)) xs) (sym p.0) tt
-same_for (All Write) s t z cells table h p = all_same cells
-  where
-    all_same : (xs : List PoolState) → AllByRecursion (λ (x : PoolState). pool_at x.name (started s) ≡ pool_at x.name (started t)) xs
-    all_same [] = tt
-    all_same (x ∷ xs) = (ap (λ y. pool_at x.name (started y)) h, all_same xs)
-
--- a table that comes back, or the table of any want, shows the same
-same_table : (w : Want) (s t : EngineState) → Agree w s t → table_of s ≡ table_of t
-same_table (Some n m) s t h = h.1
-same_table (All m) s t h = ap table_of h
+    here : (n : Text) (b : Bool) → writes w n ≡ b → is_some (cond (writes w n) (own n z) None) ≡ true → own n s ≡ own n t
+    here n true e k = agree_writes w s t n h e
+    here n false e k = absurd (let k' = rw e at k in cc)
 
 -- what the lock's release has to show of the book that it took
 pub record Meets (v : LockSeat) (b : BookView) (t : ℕ) (es : List Entry) (cells : List PoolState) (table : Option TableView) (faults : ℕ) : Type 0 where
   pub row : LockRow
-  pub at : row_at t b.lock.rows ≡ Just row
+  pub at : row_at t b.lock.rows ≡ Some row
   pub live : row.live ≡ true
   pub seat : row.seat ≡ v.number
-  pub fitting : IsFitting row.want (length cells) (is_some table)
+  pub fitting : is_some table ≡ takes_table row.want
   pub few : length b.cells + length cells ≤ 16
   pub back : ComesBack row.want (replay v.opening.state b.log) v.opening.base es cells table
   pub same : AllByRecursion (λ (x : PoolState). pool_at x.name (started (state_at v)) ≡ pool_at x.name (started (replay v.opening.state b.log))) cells
@@ -231,38 +240,34 @@ meets v b t es cells table faults p own fits alive heard back rose =
       few = few_back v b t r p own fits es cells table heard is live back';
       back = comes_back v b t r p own fits es cells table heard is live back';
       same = same_for r.want (state_at v) (replay v.opening.state b.log) (state_after (state_at v) es) cells table agree back'.part;
-      board = same_table r.want (state_at v) (replay v.opening.state b.log) agree;
+      board = agree_table r.want (state_at v) (replay v.opening.state b.log) agree;
       counts = lent_rose v b t r p own fits faults (failures_of es) is live rose;
     }
 
 -- spares, said of the book's infos
-pub spares-over : {A : Type 0} (state : A → PoolState) (named : A → Text) (name_is : (a : A) → named a ≡ (state a).name) (has_spare : A → Bool) (s t : EngineState) (infos : List PoolInfo) (items : List A) → InfosShow t infos
+pub spares-over : {A : Type 0} (state : A → PoolState) (named : A → Text) (name_is : (a : A) → named a ≡ (state a).name) (has_spare : A → Bool) (s t : EngineState) (infos : List PoolInfo) (items : List A) → ShowPools every t infos
     → AllByRecursion (λ (x : PoolState). pool_at x.name (started s) ≡ pool_at x.name (started t)) (map state items)
-    → AllByRecursion (λ (a : A). has_spare a ≡ false → option_map pool_info (pool_at (named a) (started s)) ≡ Just (pool_info (state a))) items
-    → AllByRecursion (λ (a : A). has_spare a ≡ false → info_at (named a) infos ≡ Just (pool_info (state a))) items
+    → AllByRecursion (λ (a : A). has_spare a ≡ false → option_map pool_info (pool_at (named a) (started s)) ≡ Some (pool_info (state a))) items
+    → AllByRecursion (λ (a : A). has_spare a ≡ false → info_at (named a) infos ≡ Some (pool_info (state a))) items
 spares-over state named name_is has_spare s t infos [] shows same h = tt
 spares-over state named name_is has_spare s t infos (a ∷ as') shows same h = (
   λ k.
-    let here : pool_at (named a) (started s) ≡ pool_at (named a) (started t) = subst (λ n. pool_at n (started s) ≡ pool_at n (started t)) (sym (name_is a)) same.0 in
-    shows.shown (named a) ∙ (ap (λ o. option_map pool_info o) (sym here) ∙ h.0 k),
+      let here : pool_at (named a) (started s) ≡ pool_at (named a) (started t) = subst (λ n. pool_at n (started s) ≡ pool_at n (started t)) (sym (name_is a)) same.0 in
+      shows.shown (named a) ∙ (ap (λ o. option_map pool_info o) (sym here) ∙ h.0 k),
   spares-over state named name_is has_spare s t infos as' shows same.1 h.1,
 )
 
 pub table_over : {A : Type 0} (stands : A → TableState) (has_spare : A → Bool) (s t : EngineState) (info : TableInfo) (table : Option A) → table_of s ≡ table_of t → info ≡ shown_table (table_of t)
     → IfSome table (λ (a : A). has_spare a ≡ false → shown_table (table_of s) ≡ shown_table (stands a)) → IfSome table (λ (a : A). has_spare a ≡ false → info ≡ shown_table (stands a))
 table_over stands has_spare s t info None same is h = tt
-table_over stands has_spare s t info (Just a) same is h = λ k. is ∙ (ap shown_table (sym same) ∙ h k)
-
-viewed_some : {A B : Type 0} (f : A → B) (o : Option A) → is_some (option_map f o) ≡ is_some o
-viewed_some f None = refl
-viewed_some f (Just a) = refl
+table_over stands has_spare s t info (Some a) same is h = λ k. is ∙ (ap shown_table (sym same) ∙ h k)
 
 mapped : {A B : Type 0} (f : A → B) (xs : List A) → length (map f xs) ≡ length xs
 mapped f [] = refl
 mapped f (x ∷ xs) = let rest = mapped f xs in omega arith
 
-pub fitting_here : {A B : Type 0} (f : A → PoolState) (view : B → TableView) (w : Want) (items : List A) (table : Option B) → IsFitting w (length (map f items)) (is_some (option_map view table)) → IsFitting w (length items) (is_some table)
-fitting_here f view w items table h = subst (λ n. IsFitting w n (is_some table)) (mapped f items) (subst (λ b. IsFitting w (length (map f items)) b) (viewed_some view table) h)
+pub fitting_here : {B : Type 0} (view : B → TableView) (w : Want) (table : Option B) → is_some (option_map view table) ≡ takes_table w → is_some table ≡ takes_table w
+fitting_here view w table h = sym (viewed_some view table) ∙ h
 
 pub few_here : {A : Type 0} (f : A → PoolState) (n : ℕ) (items : List A) → n + length (map f items) ≤ 16 → n + length items ≤ 16
 few_here f n items h = let same = mapped f items in omega arith

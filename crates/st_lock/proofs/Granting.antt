@@ -23,6 +23,9 @@ use Rattle.st_book.specs.View.{BookView, lent_at}
 use Rattle.st_book.proofs.Numbers.{noted-granted}
 use Rattle.st_lock.specs.declared.guard.Guard.{Guard}
 use Rattle.st_lock.specs.declared.guard.Ticket.{Ticket}
+use Rattle.st_lock.specs.declared.guard.Tried.{Tried}
+use Rattle.st_lock.specs.declared.guard.Tried.TheVariants.{Granted, NotYet}
+use Rattle.st_lock.specs.Outcomes.{IfGranted, IfNotYet}
 use Rattle.st_lock.specs.Opening.{noted_by, noted_of, events_of, Fits}
 use Rattle.st_lock.specs.Seats.{LockSeat, own_row}
 use Rattle.st_lock.proofs.Back.{own_at, own_seat}
@@ -52,19 +55,19 @@ grant_goes (Ok p) k b n t seat r at is len log notes same =
 grant_goes (Err u) k b n t seat r at is len log notes same = ([], ap noted_of same ∙ sym (append-nil (noted_of b)), tt, tt, refl)
 
 module _ {C T I J : Type 0} where
-  pub guard_if : (o : Result (Part C T I J) ℕ) (r : Result (Guard C T I J) (Ticket × ℕ)) (t : ℕ) (R : Guard C T I J → Type 0) → IfOk r (λ g. (g.ticket ≡ t) × (o ≡ Ok g.part)) → ((g : Guard C T I J) → g.ticket ≡ t → o ≡ Ok g.part → R g) → IfOk r R
-  guard_if o (Ok g) t R h f = f g h.0 h.1
-  guard_if o (Err e) t R h f = tt
+  pub guard_if : (o : Result (Part C T I J) ℕ) (r : Tried C T I J) (t : ℕ) (R : Guard C T I J → Type 0) → IfGranted r (λ g. (g.ticket ≡ t) × (o ≡ Ok g.part)) → ((g : Guard C T I J) → g.ticket ≡ t → o ≡ Ok g.part → R g) → IfGranted r R
+  guard_if o (Granted g) t R h f = f g h.0 h.1
+  guard_if o (NotYet k u) t R h f = tt
 
-  pub guard_none : (o : Result (Part C T I J) ℕ) (r : Result (Guard C T I J) (Ticket × ℕ)) (t : Ticket) (X : Type 0) → IfErr r (λ e. (e.0 ≡ t) × (o ≡ Err e.1)) → OnErr o X → OnErr r X
-  guard_none o (Ok g) t X h f = tt
-  guard_none o (Err e) t X h f = subst (λ z. OnErr z X) h.1 f
+  pub guard_none : (o : Result (Part C T I J) ℕ) (r : Tried C T I J) (t : Ticket) (X : Type 0) → IfNotYet r (λ k u. (k ≡ t) × (o ≡ Err u)) → OnErr o X → IfNotYet r (λ k u. X)
+  guard_none o (Granted g) t X h f = tt
+  guard_none o (NotYet k u) t X h f = subst (λ z. OnErr z X) h.1 f
 
-  pub guard_blocked : (o : Result (Part C T I J) ℕ) (r : Result (Guard C T I J) (Ticket × ℕ)) (t : Ticket) (l m : Lock) → IfErr r (λ e. (e.0 ≡ t) × (o ≡ Err e.1)) → OnErr o (l ≡ m) → IfErr o (IsLeastBlocker l t.number) → IfErr r (λ e. (e.0 ≡ t) × IsLeastBlocker m t.number e.1)
-  guard_blocked o (Ok g) t l m h same f = tt
-  guard_blocked o (Err e) t l m h same f =
+  pub guard_blocked : (o : Result (Part C T I J) ℕ) (r : Tried C T I J) (t : Ticket) (l m : Lock) → IfNotYet r (λ k u. (k ≡ t) × (o ≡ Err u)) → OnErr o (l ≡ m) → IfErr o (IsLeastBlocker l t.number) → IfNotYet r (λ k u. (k ≡ t) × IsLeastBlocker m t.number u)
+  guard_blocked o (Granted g) t l m h same f = tt
+  guard_blocked o (NotYet k u) t l m h same f =
       let is : l ≡ m = subst (λ z. OnErr z (l ≡ m)) h.1 same in
-      (h.0, subst (λ z. IsLeastBlocker z t.number e.1) is (subst (λ z. IfErr z (IsLeastBlocker l t.number)) h.1 f))
+      (h.0, subst (λ z. IsLeastBlocker z t.number u) is (subst (λ z. IfErr z (IsLeastBlocker l t.number)) h.1 f))
 
 -- the lock and the state, as far as the seat has then seen the log
 pub seen_lock : {P : Type 0} (o : Result P ℕ) (st : EngineState) (b n : BookView) (xs : List Noted) → xs ≡ noted_of n → OnErr o (n ≡ b) → b.lock ≡ lock_run start (moves_of b.log) → OnErr o (b.lock ≡ lock_run start (moves_of (events_of xs)))

@@ -84,8 +84,7 @@ pub turn_later : (v w x : SeatView Noted Opening) (b n : BookView) (more : List 
     → IsLater (lock_seat v) (lock_seat x) × (x.own ≡ v.own ++ more) × (x.seen ≡ noted_of n)
 turn_later v w x b n more took gave goes p own by fits =
     let is : x ≡ after_put (with_book v (noted_of b)) (noted_of b ++ more) = gave ∙ rw (took, goes) refl in
-    let history : History (opened v.opening).state (events_of (noted_of b ++ more)) = subst (λ z. History (opened v.opening).state (events_of z)) goes (subst (λ z. History (opened v.opening).state z) (sym (events-noted n.log n.notes)) fits.stands.history) in
-    (
+    let history : History (opened v.opening).state (events_of (noted_of b ++ more)) = subst (λ z. History (opened v.opening).state (events_of z)) goes (subst (λ z. History (opened v.opening).state z) (sym (events-noted n.log n.notes)) fits.stands.history) in (
       subst (λ z. IsLater (lock_seat v) (lock_seat z)) (sym is) (later-put v (noted_of b) more p own by history fits.valid),
       ap (λ (z : SeatView Noted Opening). z.own) is ∙ own-put v (noted_of b) more,
       ap (λ (z : SeatView Noted Opening). z.seen) gave,

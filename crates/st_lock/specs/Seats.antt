@@ -1,7 +1,7 @@
 -- what contracts see of a seat of the lock, and how it goes on
 use Rattle.std.specs.Prelude.{ℕ, ◌≡◌, ◌+◌, max, List, [], ◌∷◌, ◌++◌, Option, Some, None}
 use Rattle.atomic_table.specs.Seated.{TableId}
-use Rattle.st_turn.specs.declared.standing.Claim.{Claim}
+use Rattle.st_turn.specs.declared.knowledge.Claim.{Claim}
 use Rattle.st_turn.specs.Lists.{told_by, longer}
 use Rattle.st_turn.specs.Views.{SeatView}
 use Rattle.st_wants.specs.declared.row.LockRow.{LockRow}

@@ -11,3 +11,10 @@ pub struct Guard<C: Cell, T: Board> {
     pub ticket: u64,
     pub part: Part<C, T>,
 }
+
+/// What became of a ticket that tried.
+pub enum Tried<C: Cell, T: Board> {
+    Granted(Guard<C, T>),
+    /// The ticket waits; with the least ticket that keeps it back.
+    NotYet(Ticket, u64),
+}

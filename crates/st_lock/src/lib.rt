@@ -1,12 +1,13 @@
-//! The lock on one pool or on all: a book that many seats share by turns.
+//! The lock on some pools or on all: a book that many seats share by turns.
 #![tactic(auto)]
 
+mod bell;
 mod desk;
 mod guard;
 mod lock;
 mod seat;
 
 pub use desk::{Desk, Opening};
-pub use guard::{Guard, Ticket};
+pub use guard::{Guard, Ticket, Tried};
 pub use lock::AllOrSome;
 pub use seat::Seat;

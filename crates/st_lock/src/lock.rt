@@ -4,14 +4,18 @@ ghost use Rattle.st_model.specs.Parts.{pool_at, started, table_of, shown_table};
 ghost use Rattle.st_model.specs.Shown.{pool_info};
 ghost use Rattle.st_history.specs.Failures.{failures_of};
 ghost use Rattle.st_book.specs.Noted.{grant_with};
-ghost use Rattle.st_book.specs.Stands.{ComesBack, InfosShow, PartStands, PartShows};
+ghost use Rattle.st_book.specs.Stands.{ComesBack, PartStands, PartShows};
+ghost use Rattle.st_model.specs.Pieces.{ShowPools, every};
+ghost use Rattle.st_wants.specs.Wants.{takes_table};
+ghost use Rattle.st_lock.specs.Outcomes.{IfGranted, IfNotYet};
 ghost use Rattle.st_lock.specs.Held.{Rose, faults_in};
 ghost use Rattle.st_lock.specs.Opening.{IsOpening, state_of};
 ghost use Rattle.st_wants.specs.Lock.{IsLeastBlocker, new_row};
 ghost use Rattle.st_lock.specs.Seats.{first_lock_seat, lock_split, lock_new, lock_join, IsHeard, IsLater, lock_at, own_row, plain, state_at};
 
+use crate::bell::{Bell, Rest};
 use crate::desk::Desk;
-use crate::guard::{Guard, Ticket};
+use crate::guard::{Guard, Ticket, Tried};
 use crate::seat::Seat;
 use st_book::{Book, Event, Part, Peek};
 use st_model::{Board, Cell, EntryList};
@@ -22,9 +26,10 @@ use std::alloc::Global;
 use std::marker::Model;
 use std::sync::Wait;
 
-/// The lock on one pool or on all.
+/// The lock on some pools or on all.
 pub struct AllOrSome<C: Cell, T: Board> {
     turn: Turn<Desk<C, T>>,
+    bell: Bell,
 }
 
 impl<C: Cell, T: Board> Model for AllOrSome<C, T> {
@@ -45,17 +50,17 @@ fn ticket_of(arrived: Result<u64, (Want, NoMemory)>) -> Result<Ticket, (Want, No
     }
 }
 
-fn guard_of<C: Cell, T: Board>(ticket: Ticket, granted: Result<Part<C, T>, u64>) -> Result<Guard<C, T>, (Ticket, u64)>
-    ensures ok { IfOk result (λ g. (g.ticket ≡ ticket.number) × (granted ≡ Ok g.part)) }
-    ensures err { IfErr result (λ e. (e.0 ≡ ticket) × (granted ≡ Err e.1)) }
+fn tried<C: Cell, T: Board>(ticket: Ticket, granted: Result<Part<C, T>, u64>) -> Tried<C, T>
+    ensures ok { IfGranted result (λ g. (g.ticket ≡ ticket.number) × (granted ≡ Ok g.part)) }
+    ensures err { IfNotYet result (λ t u. (t ≡ ticket) × (granted ≡ Err u)) }
 {
     let Ticket { number } = ticket;
     match granted {
-        Ok(part) => Ok(Guard {
+        Ok(part) => Tried::Granted(Guard {
             ticket: number,
             part,
         }),
-        Err(blocker) => Err((Ticket { number }, blocker)),
+        Err(blocker) => Tried::NotYet(Ticket { number }, blocker),
     }
 }
 
@@ -76,7 +81,8 @@ impl<C: Cell, T: Board> AllOrSome<C, T> {
         match Book::make(alloc, table) {
             Ok(book) => {
                 let (turn, seat) = vacant.fill(Desk { book });
-                Ok((AllOrSome { turn }, Seat { seat }))
+                let bell = Bell::new();
+                Ok((AllOrSome { turn, bell }, Seat { seat }))
             }
             Err(refused) => {
                 vacant.end();
@@ -86,7 +92,13 @@ impl<C: Cell, T: Board> AllOrSome<C, T> {
     }
 
     /// A ticket for the want, whose arrival is entered.
-    pub fn arrive(&self, rt: &impl Wait, alloc: Global, seat: &mut Seat<C, T>, want: Want) -> Result<Ticket, (Want, NoMemory)>
+    pub fn arrive(
+        &self,
+        rt: &impl Wait,
+        alloc: Global,
+        seat: &mut Seat<C, T>,
+        want: Want,
+    ) -> Result<Ticket, (Want, NoMemory)>
         requires here { seat.old.turn ≡ self.now }
         ensures later { IsLater seat.old seat.new }
         ensures own { IfOk result (λ t. seat.new.own ≡ seat.old.own ++ plain (Event.Arrive seat.old.number t.number want) ∷ []) }
@@ -102,33 +114,34 @@ impl<C: Cell, T: Board> AllOrSome<C, T> {
     }
 
     /// Grants the ticket where nothing keeps it back, and gives its part.
-    pub fn try_grant(&self, rt: &impl Wait, seat: &mut Seat<C, T>, ticket: Ticket) -> Result<Guard<C, T>, (Ticket, u64)>
+    pub fn try_grant(&self, rt: &impl Wait, seat: &mut Seat<C, T>, ticket: Ticket) -> Tried<C, T>
         requires here { seat.old.turn ≡ self.now }
         requires waits { IsSomeAnd (own_row ticket.number seat.old) (λ r. r.live ≡ false) }
         ensures later { IsLater seat.old seat.new }
-        ensures own { IfOk result (λ g. (g.ticket ≡ ticket.number)
+        ensures own { IfGranted result (λ g. (g.ticket ≡ ticket.number)
             × (seat.new.own ≡ seat.old.own ++ grant_with seat.old.number g.ticket (min (faults_in T.fault_count C.fault_count g.part.table g.part.cells.items) (2 ^ 64 - 1)) ∷ [])) }
-        ensures row { IfOk result (λ g. IfSome (own_row ticket.number seat.old) (λ r. own_row g.ticket seat.new ≡ Some (record r { live = true }))) }
-        ensures part { IfOk result (λ g. IfSome (own_row ticket.number seat.old) (λ r.
+        ensures row { IfGranted result (λ g. IfSome (own_row ticket.number seat.old) (λ r. own_row g.ticket seat.new ≡ Some (record r { live = true }))) }
+        ensures part { IfGranted result (λ g. IfSome (own_row ticket.number seat.old) (λ r.
             PartStands r.want (state_at seat.new) (map C.state g.part.cells.items) (option_map (λ t. record { state = T.stands t; slack = T.slack t }) g.part.table))) }
-        ensures shown { IfOk result (λ g. g.part.short ≡ false → IfSome (own_row ticket.number seat.old) (λ r.
+        ensures shown { IfGranted result (λ g. g.part.short ≡ false → IfSome (own_row ticket.number seat.old) (λ r.
             PartShows r.want (state_at seat.new) (map C.shows g.part.infos.items) (option_map T.shows g.part.table_info))) }
-        ensures short { IfOk result (λ g. g.part.short ≡ true → (g.part.infos.items ≡ []) × (g.part.table_info ≡ None)) }
-        ensures slack { IfOk result (λ g. IfSome g.part.table (λ t. seat.new.opening.base ≤ T.slack t)) }
-        ensures whole { IfOk result (λ g. length seat.new.seen < 2 ^ 62 → min (faults_in T.fault_count C.fault_count g.part.table g.part.cells.items) (2 ^ 64 - 1) ≡ faults_in T.fault_count C.fault_count g.part.table g.part.cells.items) }
-        ensures kept { IfOk result (λ g. AllByRecursion C.is_kept g.part.cells.items × IfSome g.part.table T.is_kept) }
-        ensures places { IfOk result (λ g. 16 ≤ length g.part.cells.items + g.part.cells.room) }
-        ensures blocked { IfErr result (λ e. (e.0 ≡ ticket) × IsLeastBlocker (lock_at seat.new) ticket.number e.1) }
-        ensures same { OnErr result (seat.new.own ≡ seat.old.own) }
+        ensures short { IfGranted result (λ g. g.part.short ≡ true → (g.part.infos.items ≡ []) × (g.part.table_info ≡ None)) }
+        ensures due { IfGranted result (λ g. g.part.short ≡ true → IfSome (own_row ticket.number seat.old) (λ r. takes_table r.want ≡ false)) }
+        ensures slack { IfGranted result (λ g. IfSome g.part.table (λ t. seat.new.opening.base ≤ T.slack t)) }
+        ensures whole { IfGranted result (λ g. length seat.new.seen < 2 ^ 62 → min (faults_in T.fault_count C.fault_count g.part.table g.part.cells.items) (2 ^ 64 - 1) ≡ faults_in T.fault_count C.fault_count g.part.table g.part.cells.items) }
+        ensures kept { IfGranted result (λ g. AllByRecursion C.is_kept g.part.cells.items × IfSome g.part.table T.is_kept) }
+        ensures places { IfGranted result (λ g. 16 ≤ length g.part.cells.items + g.part.cells.room) }
+        ensures blocked { IfNotYet result (λ t u. (t ≡ ticket) × IsLeastBlocker (lock_at seat.new) ticket.number u) }
+        ensures same { IfNotYet result (λ t u. seat.new.own ≡ seat.old.own) }
     {
         let Desk { book } = self.turn.take(rt, &mut seat.seat);
         let mut book = book;
         let granted = book.grant(ticket.number);
         self.turn.put(&mut seat.seat, Desk { book });
-        guard_of(ticket, granted)
+        tried(ticket, granted)
     }
 
-    /// Tries until the ticket is granted.
+    /// Waits until the ticket is granted. Between two looks the seat sleeps until another ticket is released.
     pub fn acquire(&self, rt: &impl Wait, seat: &mut Seat<C, T>, ticket: Ticket) -> Guard<C, T>
         requires here { seat.old.turn ≡ self.now }
         requires waits { IsSomeAnd (own_row ticket.number seat.old) (λ r. r.live ≡ false) }
@@ -141,23 +154,35 @@ impl<C: Cell, T: Board> AllOrSome<C, T> {
         ensures shown { result.part.short ≡ false → IfSome (own_row ticket.number seat.old) (λ r.
             PartShows r.want (state_at seat.new) (map C.shows result.part.infos.items) (option_map T.shows result.part.table_info)) }
         ensures short { result.part.short ≡ true → (result.part.infos.items ≡ []) × (result.part.table_info ≡ None) }
+        ensures due { result.part.short ≡ true → IfSome (own_row ticket.number seat.old) (λ r. takes_table r.want ≡ false) }
         ensures slack { IfSome result.part.table (λ t. seat.new.opening.base ≤ T.slack t) }
         ensures whole { length seat.new.seen < 2 ^ 62 → min (faults_in T.fault_count C.fault_count result.part.table result.part.cells.items) (2 ^ 64 - 1) ≡ faults_in T.fault_count C.fault_count result.part.table result.part.cells.items }
         ensures kept { AllByRecursion C.is_kept result.part.cells.items × IfSome result.part.table T.is_kept }
         ensures places { 16 ≤ length result.part.cells.items + result.part.cells.room }
     {
         let mut ticket = ticket;
+        let mut rest = Rest::Awake;
         for _ in rt.forever() {
             match self.try_grant(rt, seat, ticket) {
-                Ok(guard) => return guard,
-                Err((same, _blocker)) => ticket = same,
+                Tried::Granted(guard) => {
+                    self.bell.wake_up(rest);
+                    return guard;
+                }
+                Tried::NotYet(same, _blocker) => ticket = same,
             }
+            rest = self.bell.rest(rt, rest);
         }
         unreachable!()
     }
 
     /// Takes a guard's part back, and enters the release with the entries of what ran on it.
-    pub fn release(&self, rt: &impl Wait, seat: &mut Seat<C, T>, guard: Guard<C, T>, entries: EntryList)
+    pub fn release(
+        &self,
+        rt: &impl Wait,
+        seat: &mut Seat<C, T>,
+        guard: Guard<C, T>,
+        entries: EntryList,
+    )
         requires here { seat.old.turn ≡ self.now }
         requires live { IsSomeAnd (own_row guard.ticket seat.old) (λ r. r.live ≡ true) }
         requires heard { IsHeard seat.old }
@@ -175,6 +200,7 @@ impl<C: Cell, T: Board> AllOrSome<C, T> {
         let mut book = book;
         book.release(ticket, part, entries);
         self.turn.put(&mut seat.seat, Desk { book });
+        self.bell.ring(rt);
     }
 
     /// A new seat, which has seen what the one has. It takes no memory.
@@ -200,12 +226,17 @@ impl<C: Cell, T: Board> AllOrSome<C, T> {
     }
 
     /// What is shown of the table and of each started pool, after the log as far as the seat has then seen it.
-    pub fn peek(&self, rt: &impl Wait, alloc: Global, seat: &mut Seat<C, T>) -> Result<Peek<C, T>, NoMemory>
+    pub fn peek(
+        &self,
+        rt: &impl Wait,
+        alloc: Global,
+        seat: &mut Seat<C, T>,
+    ) -> Result<Peek<C, T>, NoMemory>
         requires here { seat.old.turn ≡ self.now }
         ensures later { IsLater seat.old seat.new }
         ensures own { seat.new.own ≡ seat.old.own }
         ensures table { IfOk result (λ p. T.shows p.table_info ≡ shown_table (table_of (state_at seat.new))) }
-        ensures infos { IfOk result (λ p. InfosShow (state_at seat.new) (map C.shows p.infos.items)) }
+        ensures infos { IfOk result (λ p. ShowPools every (state_at seat.new) (map C.shows p.infos.items)) }
     {
         let Desk { book } = self.turn.take(rt, &mut seat.seat);
         let shown = book.peek(alloc);

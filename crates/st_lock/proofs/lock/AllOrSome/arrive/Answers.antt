@@ -13,11 +13,14 @@ pub put-requires-clause-book : goal.put-requires-clause-book
 put-requires-clause-book g c =
     let number : c.number.result ≡ c.seat.inside.seat.number = rw c.take-book.ensures.view at c.number.ensures in
     let m = arrive_goes c.arrive-arrived.result c.take-book.result.book c.arrive-arrived.new.self c.number.result c.args.want c.arrive-arrived.ensures.ticket c.arrive-arrived.ensures.ok c.arrive-arrived.ensures.err in
-    rw c.take-book.ensures.view (m.0, record {
-      goes = m.1;
-      own = by_is c.number.result c.seat.inside.seat.number m.0 number m.2;
-      fitting = λ o is. fits_still o c.take-book.result.book c.arrive-arrived.new.self c.arrive-arrived.ensures.stands (c.take-book.ensures.book.fitting o is);
-    })
+    rw c.take-book.ensures.view (
+      m.0,
+      record {
+        goes = m.1;
+        own = by_is c.number.result c.seat.inside.seat.number m.0 number m.2;
+        fitting = λ o is. fits_still o c.take-book.result.book c.arrive-arrived.new.self c.arrive-arrived.ensures.stands (c.take-book.ensures.book.fitting o is);
+      },
+    )
 
 pub returns-clause-later : goal.returns-clause-later
 returns-clause-later g c =

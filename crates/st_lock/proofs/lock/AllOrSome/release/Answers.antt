@@ -22,7 +22,7 @@ release-requires-clause-live g c κs within =
     let lent = c.take-book.ensures.book in
     let fits = lent.fitting (opened u.opening) (is_open u.opening c.seat.invariant.1) in
     let m : Meets v b c.args.guard.ticket c.args.entries.items cells table faults = meets v b c.args.guard.ticket c.args.entries.items cells table faults lent.seen lent.own fits
-        (rw (← c.seat.view_is) at c.requires.live) (rw (← c.seat.view_is) at c.requires.heard) (rw (← c.seat.view_is) at c.requires.back) (rw (← c.seat.view_is) at c.requires.rose) in
+    (rw (← c.seat.view_is) at c.requires.live) (rw (← c.seat.view_is) at c.requires.heard) (rw (← c.seat.view_is) at c.requires.back) (rw (← c.seat.view_is) at c.requires.rose) in
     rw m.at m.live
 
 pub release-requires-clause-fitting : goal.release-requires-clause-fitting
@@ -37,8 +37,8 @@ release-requires-clause-fitting g c κs within =
     let lent = c.take-book.ensures.book in
     let fits = lent.fitting (opened u.opening) (is_open u.opening c.seat.invariant.1) in
     let m : Meets v b c.args.guard.ticket c.args.entries.items cells table faults = meets v b c.args.guard.ticket c.args.entries.items cells table faults lent.seen lent.own fits
-        (rw (← c.seat.view_is) at c.requires.live) (rw (← c.seat.view_is) at c.requires.heard) (rw (← c.seat.view_is) at c.requires.back) (rw (← c.seat.view_is) at c.requires.rose) in
-    rw m.at (fitting_here g.C.Cell.state viewed m.row.want c.args.guard.part.cells.items c.args.guard.part.table m.fitting)
+    (rw (← c.seat.view_is) at c.requires.live) (rw (← c.seat.view_is) at c.requires.heard) (rw (← c.seat.view_is) at c.requires.back) (rw (← c.seat.view_is) at c.requires.rose) in
+    rw m.at (fitting_here viewed m.row.want c.args.guard.part.table m.fitting)
 
 pub release-requires-clause-few : goal.release-requires-clause-few
 release-requires-clause-few g c κs within =
@@ -52,7 +52,7 @@ release-requires-clause-few g c κs within =
     let lent = c.take-book.ensures.book in
     let fits = lent.fitting (opened u.opening) (is_open u.opening c.seat.invariant.1) in
     let m : Meets v b c.args.guard.ticket c.args.entries.items cells table faults = meets v b c.args.guard.ticket c.args.entries.items cells table faults lent.seen lent.own fits
-        (rw (← c.seat.view_is) at c.requires.live) (rw (← c.seat.view_is) at c.requires.heard) (rw (← c.seat.view_is) at c.requires.back) (rw (← c.seat.view_is) at c.requires.rose) in
+    (rw (← c.seat.view_is) at c.requires.live) (rw (← c.seat.view_is) at c.requires.heard) (rw (← c.seat.view_is) at c.requires.back) (rw (← c.seat.view_is) at c.requires.rose) in
     few_here g.C.Cell.state (length b.cells) c.args.guard.part.cells.items m.few
 
 pub put-requires-clause-book : goal.put-requires-clause-book
@@ -67,18 +67,21 @@ put-requires-clause-book g c =
     let lent = c.take-book.ensures.book in
     let fits = lent.fitting (opened u.opening) (is_open u.opening c.seat.invariant.1) in
     let m : Meets v b c.args.guard.ticket c.args.entries.items cells table faults = meets v b c.args.guard.ticket c.args.entries.items cells table faults lent.seen lent.own fits
-        (rw (← c.seat.view_is) at c.requires.live) (rw (← c.seat.view_is) at c.requires.heard) (rw (← c.seat.view_is) at c.requires.back) (rw (← c.seat.view_is) at c.requires.rose) in
+    (rw (← c.seat.view_is) at c.requires.live) (rw (← c.seat.view_is) at c.requires.heard) (rw (← c.seat.view_is) at c.requires.back) (rw (← c.seat.view_is) at c.requires.rose) in
     let n = c.release.new.self in
     let spares = spares-over g.C.Cell.state g.C.Named.named g.met.C.Cell.name_is g.C.Cell.has_spare (state_at v) (replay v.opening.state b.log) b.infos c.args.guard.part.cells.items fits.stands.infos m.same (rw (← c.seat.view_is) at c.requires.spares) in
     let spare = table_over g.T.Board.stands g.T.Board.has_spare (state_at v) (replay v.opening.state b.log) b.table_info c.args.guard.part.table m.board fits.stands.table_info (rw (← c.seat.view_is) at c.requires.spare) in
     let stands = c.release.ensures.stands (opened u.opening).state (opened u.opening).base fits.stands (rw m.at m.back) spares spare m.counts in
     let more = release_goes b n c.args.guard.ticket v.number m.row c.args.entries m.at m.seat c.release.ensures.log c.release.ensures.notes in
     let fits' = fits_after (opened u.opening) b n fits stands in
-    rw c.take-book.ensures.view (plain (Release v.number c.args.guard.ticket c.args.entries) ∷ [], record {
-      goes = more.0;
-      own = more.1;
-      fitting = λ o is. fits_of u.opening o n is fits';
-    })
+    rw c.take-book.ensures.view (
+      plain (Release v.number c.args.guard.ticket c.args.entries) ∷ [],
+      record {
+        goes = more.0;
+        own = more.1;
+        fitting = λ o is. fits_of u.opening o n is fits';
+      },
+    )
 
 pub returns-clause-later : goal.returns-clause-later
 returns-clause-later g c =
@@ -92,7 +95,7 @@ returns-clause-later g c =
     let lent = c.take-book.ensures.book in
     let fits = lent.fitting (opened u.opening) (is_open u.opening c.seat.invariant.1) in
     let m : Meets v b c.args.guard.ticket c.args.entries.items cells table faults = meets v b c.args.guard.ticket c.args.entries.items cells table faults lent.seen lent.own fits
-        (rw (← c.seat.view_is) at c.requires.live) (rw (← c.seat.view_is) at c.requires.heard) (rw (← c.seat.view_is) at c.requires.back) (rw (← c.seat.view_is) at c.requires.rose) in
+    (rw (← c.seat.view_is) at c.requires.live) (rw (← c.seat.view_is) at c.requires.heard) (rw (← c.seat.view_is) at c.requires.back) (rw (← c.seat.view_is) at c.requires.rose) in
     let n = c.release.new.self in
     let spares = spares-over g.C.Cell.state g.C.Named.named g.met.C.Cell.name_is g.C.Cell.has_spare (state_at v) (replay v.opening.state b.log) b.infos c.args.guard.part.cells.items fits.stands.infos m.same (rw (← c.seat.view_is) at c.requires.spares) in
     let spare = table_over g.T.Board.stands g.T.Board.has_spare (state_at v) (replay v.opening.state b.log) b.table_info c.args.guard.part.table m.board fits.stands.table_info (rw (← c.seat.view_is) at c.requires.spare) in
@@ -113,7 +116,7 @@ returns-clause-own g c =
     let lent = c.take-book.ensures.book in
     let fits = lent.fitting (opened u.opening) (is_open u.opening c.seat.invariant.1) in
     let m : Meets v b c.args.guard.ticket c.args.entries.items cells table faults = meets v b c.args.guard.ticket c.args.entries.items cells table faults lent.seen lent.own fits
-        (rw (← c.seat.view_is) at c.requires.live) (rw (← c.seat.view_is) at c.requires.heard) (rw (← c.seat.view_is) at c.requires.back) (rw (← c.seat.view_is) at c.requires.rose) in
+    (rw (← c.seat.view_is) at c.requires.live) (rw (← c.seat.view_is) at c.requires.heard) (rw (← c.seat.view_is) at c.requires.back) (rw (← c.seat.view_is) at c.requires.rose) in
     let n = c.release.new.self in
     let spares = spares-over g.C.Cell.state g.C.Named.named g.met.C.Cell.name_is g.C.Cell.has_spare (state_at v) (replay v.opening.state b.log) b.infos c.args.guard.part.cells.items fits.stands.infos m.same (rw (← c.seat.view_is) at c.requires.spares) in
     let spare = table_over g.T.Board.stands g.T.Board.has_spare (state_at v) (replay v.opening.state b.log) b.table_info c.args.guard.part.table m.board fits.stands.table_info (rw (← c.seat.view_is) at c.requires.spare) in

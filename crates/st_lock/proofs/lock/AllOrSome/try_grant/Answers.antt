@@ -39,11 +39,14 @@ put-requires-clause-book g c =
     let cut = λ (p : Part g.row.C.Denot g.row.T.Denot g.row.C-Info.Denot g.row.T-Info.Denot). min (faults_in g.T.Board.fault_count g.C.Cell.fault_count p.table p.cells.items) (2 ^ 64 - 1) in
     let m = grant_goes c.grant-granted.result cut b n t v.number w.row w.at w.seat fits.stands.grants c.grant-granted.ensures.log c.grant-granted.ensures.notes c.grant-granted.ensures.err in
     let fits' = fits_still (opened u.opening) b n c.grant-granted.ensures.stands fits in
-    rw c.take-book.ensures.view (m.0, record {
-      goes = m.1;
-      own = m.2;
-      fitting = λ o is. fits_of u.opening o n is fits';
-    })
+    rw c.take-book.ensures.view (
+      m.0,
+      record {
+        goes = m.1;
+        own = m.2;
+        fitting = λ o is. fits_of u.opening o n is fits';
+      },
+    )
 
 pub returns-clause-later : goal.returns-clause-later
 returns-clause-later g c =
@@ -75,9 +78,9 @@ returns-clause-own g c =
     let m = grant_goes c.grant-granted.result cut b n t v.number w.row w.at w.seat fits.stands.grants c.grant-granted.ensures.log c.grant-granted.ensures.notes c.grant-granted.ensures.err in
     let fits' = fits_still (opened u.opening) b n c.grant-granted.ensures.stands fits in
     let x = turn_later u c.take-book.new.seat c.put.new.seat b n m.0 c.take-book.ensures.view c.put.ensures.view m.1 lent.seen lent.own m.2 fits' in
-    rw (← c.seat.view_is) (guard_if c.grant-granted.result c.guard_of.result t _ c.guard_of.ensures.ok (λ h tk e.
-        let is : m.0 ≡ grant_with v.number t (cut h.part) ∷ [] = ok_at c.grant-granted.result h.part (λ p. m.0 ≡ grant_with v.number t (cut p) ∷ []) e m.3 in
-        (tk, x.1 ∙ (ap (λ z. v.own ++ z) is ∙ ap (λ z. v.own ++ grant_with v.number z (cut h.part) ∷ []) (sym tk)))))
+    rw (← c.seat.view_is) (guard_if c.grant-granted.result c.tried.result t _ c.tried.ensures.ok (λ h tk e.
+    let is : m.0 ≡ grant_with v.number t (cut h.part) ∷ [] = ok_at c.grant-granted.result h.part (λ p. m.0 ≡ grant_with v.number t (cut p) ∷ []) e m.3 in
+    (tk, x.1 ∙ (ap (λ z. v.own ++ z) is ∙ ap (λ z. v.own ++ grant_with v.number z (cut h.part) ∷ []) (sym tk)))))
 
 pub returns-clause-row : goal.returns-clause-row
 returns-clause-row g c =
@@ -93,11 +96,11 @@ returns-clause-row g c =
     let m = grant_goes c.grant-granted.result cut b n t v.number w.row w.at w.seat fits.stands.grants c.grant-granted.ensures.log c.grant-granted.ensures.notes c.grant-granted.ensures.err in
     let fits' = fits_still (opened u.opening) b n c.grant-granted.ensures.stands fits in
     let x = turn_later u c.take-book.new.seat c.put.new.seat b n m.0 c.take-book.ensures.view c.put.ensures.view m.1 lent.seen lent.own m.2 fits' in
-    rw (← c.seat.view_is) (guard_if c.grant-granted.result c.guard_of.result t _ c.guard_of.ensures.ok (λ h tk e.
-        let is : m.0 ≡ grant_with v.number t (cut h.part) ∷ [] = ok_at c.grant-granted.result h.part (λ p. m.0 ≡ grant_with v.number t (cut p) ∷ []) e m.3 in
-        let grew : c.put.new.seat.own ≡ v.own ++ grant_with v.number t (cut h.part) ∷ [] = x.1 ∙ ap (λ z. v.own ++ z) is in
-        let now = row_granted t v.number (cut h.part) v.own c.put.new.seat.own grew in
-        rw (tk, w.told) (row_live t v c.put.new.seat.own b w now)))
+    rw (← c.seat.view_is) (guard_if c.grant-granted.result c.tried.result t _ c.tried.ensures.ok (λ h tk e.
+    let is : m.0 ≡ grant_with v.number t (cut h.part) ∷ [] = ok_at c.grant-granted.result h.part (λ p. m.0 ≡ grant_with v.number t (cut p) ∷ []) e m.3 in
+    let grew : c.put.new.seat.own ≡ v.own ++ grant_with v.number t (cut h.part) ∷ [] = x.1 ∙ ap (λ z. v.own ++ z) is in
+    let now = row_granted t v.number (cut h.part) v.own c.put.new.seat.own grew in
+    rw (tk, w.told) (row_live t v c.put.new.seat.own b w now)))
 
 pub returns-clause-part : goal.returns-clause-part
 returns-clause-part g c =
@@ -113,12 +116,12 @@ returns-clause-part g c =
     let m = grant_goes c.grant-granted.result cut b n t v.number w.row w.at w.seat fits.stands.grants c.grant-granted.ensures.log c.grant-granted.ensures.notes c.grant-granted.ensures.err in
     let fits' = fits_still (opened u.opening) b n c.grant-granted.ensures.stands fits in
     let x = turn_later u c.take-book.new.seat c.put.new.seat b n m.0 c.take-book.ensures.view c.put.ensures.view m.1 lent.seen lent.own m.2 fits' in
-    rw (← c.seat.view_is) (guard_if c.grant-granted.result c.guard_of.result t _ c.guard_of.ensures.ok (λ h tk e.
-        let stands = rw e at c.grant-granted.ensures.part in
-        let here = rw w.at at (stands (opened u.opening).state (opened u.opening).base fits.stands) in
-        let log = rw w.at at (rw e at c.grant-granted.ensures.log) in
-        let same = seen_state (opened u.opening).state b n c.put.new.seat.seen t w.row.seat x.2 log ∙ ap (λ (o : Opening). replay o.state (events_of c.put.new.seat.seen)) (sym x.0.opening) in
-        rw w.told (rw same at here)))
+    rw (← c.seat.view_is) (guard_if c.grant-granted.result c.tried.result t _ c.tried.ensures.ok (λ h tk e.
+    let stands = rw e at c.grant-granted.ensures.part in
+    let here = rw w.at at (stands (opened u.opening).state (opened u.opening).base fits.stands) in
+    let log = rw w.at at (rw e at c.grant-granted.ensures.log) in
+    let same = seen_state (opened u.opening).state b n c.put.new.seat.seen t w.row.seat x.2 log ∙ ap (λ (o : Opening). replay o.state (events_of c.put.new.seat.seen)) (sym x.0.opening) in
+    rw w.told (rw same at here)))
 
 pub returns-clause-shown : goal.returns-clause-shown
 returns-clause-shown g c =
@@ -134,12 +137,30 @@ returns-clause-shown g c =
     let m = grant_goes c.grant-granted.result cut b n t v.number w.row w.at w.seat fits.stands.grants c.grant-granted.ensures.log c.grant-granted.ensures.notes c.grant-granted.ensures.err in
     let fits' = fits_still (opened u.opening) b n c.grant-granted.ensures.stands fits in
     let x = turn_later u c.take-book.new.seat c.put.new.seat b n m.0 c.take-book.ensures.view c.put.ensures.view m.1 lent.seen lent.own m.2 fits' in
-    rw (← c.seat.view_is) (guard_if c.grant-granted.result c.guard_of.result t _ c.guard_of.ensures.ok (λ h tk e. λ whole.
-        let stands = rw e at c.grant-granted.ensures.shown in
-        let here = rw w.at at (stands whole (opened u.opening).state (opened u.opening).base fits.stands) in
-        let log = rw w.at at (rw e at c.grant-granted.ensures.log) in
-        let same = seen_state (opened u.opening).state b n c.put.new.seat.seen t w.row.seat x.2 log ∙ ap (λ (o : Opening). replay o.state (events_of c.put.new.seat.seen)) (sym x.0.opening) in
-        rw w.told (rw same at here)))
+    rw (← c.seat.view_is) (guard_if c.grant-granted.result c.tried.result t _ c.tried.ensures.ok (λ h tk e. λ whole.
+    let stands = rw e at c.grant-granted.ensures.shown in
+    let here = rw w.at at (stands whole (opened u.opening).state (opened u.opening).base fits.stands) in
+    let log = rw w.at at (rw e at c.grant-granted.ensures.log) in
+    let same = seen_state (opened u.opening).state b n c.put.new.seat.seen t w.row.seat x.2 log ∙ ap (λ (o : Opening). replay o.state (events_of c.put.new.seat.seen)) (sym x.0.opening) in
+    rw w.told (rw same at here)))
+
+pub returns-clause-due : goal.returns-clause-due
+returns-clause-due g c =
+    let u = c.seat.inside.seat in
+    let v : LockSeat = lock_seat u in
+    let b = c.take-book.result.book in
+    let t = c.args.ticket.number in
+    let lent = c.take-book.ensures.book in
+    let fits = lent.fitting (opened u.opening) (is_open u.opening c.seat.invariant.1) in
+    let w : Waits v b t = waits_in v b t lent.seen lent.own fits (rw (← c.seat.view_is) at c.requires.waits) in
+    let n = c.grant-granted.new.self in
+    let cut = λ (p : Part g.row.C.Denot g.row.T.Denot g.row.C-Info.Denot g.row.T-Info.Denot). min (faults_in g.T.Board.fault_count g.C.Cell.fault_count p.table p.cells.items) (2 ^ 64 - 1) in
+    let m = grant_goes c.grant-granted.result cut b n t v.number w.row w.at w.seat fits.stands.grants c.grant-granted.ensures.log c.grant-granted.ensures.notes c.grant-granted.ensures.err in
+    let fits' = fits_still (opened u.opening) b n c.grant-granted.ensures.stands fits in
+    let x = turn_later u c.take-book.new.seat c.put.new.seat b n m.0 c.take-book.ensures.view c.put.ensures.view m.1 lent.seen lent.own m.2 fits' in
+    rw (← c.seat.view_is) (guard_if c.grant-granted.result c.tried.result t _ c.tried.ensures.ok (λ h tk e. λ short.
+    let due = rw e at c.grant-granted.ensures.due in
+    rw w.told (rw w.at at (due short))))
 
 pub returns-clause-slack : goal.returns-clause-slack
 returns-clause-slack g c =
@@ -155,9 +176,9 @@ returns-clause-slack g c =
     let m = grant_goes c.grant-granted.result cut b n t v.number w.row w.at w.seat fits.stands.grants c.grant-granted.ensures.log c.grant-granted.ensures.notes c.grant-granted.ensures.err in
     let fits' = fits_still (opened u.opening) b n c.grant-granted.ensures.stands fits in
     let x = turn_later u c.take-book.new.seat c.put.new.seat b n m.0 c.take-book.ensures.view c.put.ensures.view m.1 lent.seen lent.own m.2 fits' in
-    guard_if c.grant-granted.result c.guard_of.result t _ c.guard_of.ensures.ok (λ h tk e.
-        let slack = rw e at c.grant-granted.ensures.slack in
-        rw (x.0.opening) (slack (opened u.opening).state (opened u.opening).base fits.stands))
+    guard_if c.grant-granted.result c.tried.result t _ c.tried.ensures.ok (λ h tk e.
+    let slack = rw e at c.grant-granted.ensures.slack in
+    rw (x.0.opening) (slack (opened u.opening).state (opened u.opening).base fits.stands))
 
 pub returns-clause-whole : goal.returns-clause-whole
 returns-clause-whole g c =
@@ -173,12 +194,12 @@ returns-clause-whole g c =
     let m = grant_goes c.grant-granted.result cut b n t v.number w.row w.at w.seat fits.stands.grants c.grant-granted.ensures.log c.grant-granted.ensures.notes c.grant-granted.ensures.err in
     let fits' = fits_still (opened u.opening) b n c.grant-granted.ensures.stands fits in
     let x = turn_later u c.take-book.new.seat c.put.new.seat b n m.0 c.take-book.ensures.view c.put.ensures.view m.1 lent.seen lent.own m.2 fits' in
-    guard_if c.grant-granted.result c.guard_of.result t _ c.guard_of.ensures.ok (λ h tk e. λ short.
-        let lent' = rw e at c.grant-granted.ensures.lent in
-        let lock = rw e at c.grant-granted.ensures.lock in
-        let is : m.0 ≡ grant_with v.number t (cut h.part) ∷ [] = ok_at c.grant-granted.result h.part (λ p. m.0 ≡ grant_with v.number t (cut p) ∷ []) e m.3 in
-        whole_number (opened u.opening).state (opened u.opening).base b n c.put.new.seat.seen t v.number (faults_in g.T.Board.fault_count g.C.Cell.fault_count h.part.table h.part.cells.items) (cut h.part) w.row fits' x.2 (m.1 ∙ ap (λ z. noted_of b ++ z) is) lock w.at
-            (lent' (opened u.opening).state (opened u.opening).base fits.stands) short)
+    guard_if c.grant-granted.result c.tried.result t _ c.tried.ensures.ok (λ h tk e. λ short.
+    let lent' = rw e at c.grant-granted.ensures.lent in
+    let lock = rw e at c.grant-granted.ensures.lock in
+    let is : m.0 ≡ grant_with v.number t (cut h.part) ∷ [] = ok_at c.grant-granted.result h.part (λ p. m.0 ≡ grant_with v.number t (cut p) ∷ []) e m.3 in
+    whole_number (opened u.opening).state (opened u.opening).base b n c.put.new.seat.seen t v.number (faults_in g.T.Board.fault_count g.C.Cell.fault_count h.part.table h.part.cells.items) (cut h.part) w.row fits' x.2 (m.1 ∙ ap (λ z. noted_of b ++ z) is) lock w.at
+    (lent' (opened u.opening).state (opened u.opening).base fits.stands) short)
 
 pub returns-clause-blocked : goal.returns-clause-blocked
 returns-clause-blocked g c =
@@ -194,7 +215,7 @@ returns-clause-blocked g c =
     let m = grant_goes c.grant-granted.result cut b n t v.number w.row w.at w.seat fits.stands.grants c.grant-granted.ensures.log c.grant-granted.ensures.notes c.grant-granted.ensures.err in
     let fits' = fits_still (opened u.opening) b n c.grant-granted.ensures.stands fits in
     let x = turn_later u c.take-book.new.seat c.put.new.seat b n m.0 c.take-book.ensures.view c.put.ensures.view m.1 lent.seen lent.own m.2 fits' in
-    guard_blocked c.grant-granted.result c.guard_of.result c.args.ticket b.lock _ c.guard_of.ensures.err (seen_lock c.grant-granted.result (opened u.opening).state b n c.put.new.seat.seen x.2 c.grant-granted.ensures.err fits.stands.lock) c.grant-granted.ensures.blocked
+    guard_blocked c.grant-granted.result c.tried.result c.args.ticket b.lock _ c.tried.ensures.err (seen_lock c.grant-granted.result (opened u.opening).state b n c.put.new.seat.seen x.2 c.grant-granted.ensures.err fits.stands.lock) c.grant-granted.ensures.blocked
 
 pub returns-clause-same : goal.returns-clause-same
 returns-clause-same g c =
@@ -210,4 +231,4 @@ returns-clause-same g c =
     let m = grant_goes c.grant-granted.result cut b n t v.number w.row w.at w.seat fits.stands.grants c.grant-granted.ensures.log c.grant-granted.ensures.notes c.grant-granted.ensures.err in
     let fits' = fits_still (opened u.opening) b n c.grant-granted.ensures.stands fits in
     let x = turn_later u c.take-book.new.seat c.put.new.seat b n m.0 c.take-book.ensures.view c.put.ensures.view m.1 lent.seen lent.own m.2 fits' in
-    rw (← c.seat.view_is) (guard_none c.grant-granted.result c.guard_of.result c.args.ticket (c.put.new.seat.own ≡ u.own) c.guard_of.ensures.err (none_more c.grant-granted.result u.own c.put.new.seat.own m.0 x.1 m.4))
+    rw (← c.seat.view_is) (guard_none c.grant-granted.result c.tried.result c.args.ticket (c.put.new.seat.own ≡ u.own) c.tried.ensures.err (none_more c.grant-granted.result u.own c.put.new.seat.own m.0 x.1 m.4))
