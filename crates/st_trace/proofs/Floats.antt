@@ -1,6 +1,5 @@
 -- no event has a float
 use Rattle.std.proofs.Common.{◌≡◌, ℕ, List, [], ◌∷◌, false, Option, Some, None, refl}
-use Rattle.serde_json.specs.Data.{Data}
 use Rattle.serde_json.specs.Written.{has_float}
 use Rattle.st_report.specs.Values.{count_or_null}
 use Rattle.st_report.proofs.Floats.{no_float-map, no_float-texts}
@@ -9,7 +8,7 @@ use Rattle.st_units.specs.declared.rows.FsSpec.{FsSpec}
 use Rattle.st_wants.specs.declared.want.Want.{Want}
 use Rattle.st_wants.specs.declared.want.Want.TheVariants as wants
 use Rattle.st_model.specs.declared.call.Call.{Call}
-use Rattle.st_model.specs.declared.call.Call.TheVariants.{CreatePool, DestroyPool, StopPool, StartPool, RenamePool, AddDataDevs, InitCache, AddCacheDevs, CreateFilesystems, DestroyFilesystems, SnapshotFilesystem, RenameFilesystem, SetSizeLimit, SetFsLimit, SetOverprovisioning, FsWrite, FsRead, Check, PoolReport, EngineStateReport, PowerCycle}
+use Rattle.st_model.specs.declared.call.Call.TheVariants.{CreatePool, DestroyPool, StopPool, StartPool, RenamePool, AddDataDevs, InitCache, AddCacheDevs, CreateFilesystems, DestroyFilesystems, SnapshotFilesystem, RenameFilesystem, SetSizeLimit, SetFsLimit, SetOverprovisioning, SetMerge, FsWrite, FsRead, Check, PoolReport, PoolReports, EngineStateReport, PowerCycle}
 use Rattle.st_model.specs.declared.call.PoolId.{PoolId}
 use Rattle.st_model.specs.declared.call.PoolId.TheVariants.{ByName, ByUuid}
 use Rattle.st_model.specs.declared.call.Payload.{Payload}
@@ -22,8 +21,8 @@ use Rattle.st_history.specs.declared.log.Event.TheVariants.{Arrive, Grant, Relea
 use Rattle.st_model.specs.declared.entry.Origin.{Origin}
 use Rattle.st_model.specs.declared.entry.Origin.TheVariants.{Line, Prepare, Close}
 use Rattle.st_model.specs.declared.entry.Origin.TheVariants as origins
-use Rattle.st_trace.specs.Calls.{bare_call, named_call, pool_call, create_call, start_call, start_data, rename_call, devices_call, fs_spec, fs_specs, create_fs_call, destroy_fs_call, snapshot_call, rename_fs_call, size_limit_call, fs_limit_call, overprovisioning_call, fill_call, hex_call, write_data, read_call, call_data}
-use Rattle.st_trace.specs.Traced.{want_data, env_data, origin_data, entry_data, entries_data, arrive_data, grant_data, release_data, event_data}
+use Rattle.st_trace.specs.Calls.{bare_call, named_call, pool_call, create_call, start_call, start_data, rename_call, devices_call, fs_spec, fs_specs, create_fs_call, destroy_fs_call, snapshot_call, rename_fs_call, size_limit_call, fs_limit_call, overprovisioning_call, merge_call, reports_call, fill_call, hex_call, write_data, read_call, call_data}
+use Rattle.st_trace.specs.Traced.{names_data, want_data, env_data, origin_data, entry_data, entries_data, arrive_data, grant_data, release_data, event_data}
 
 no_float-count : (n : Option ℕ) → has_float (count_or_null n) ≡ false
 unfolding count_or_null
@@ -49,7 +48,7 @@ no_float-write pool name sector (Fill byte sectors) = refl
 no_float-write pool name sector (Given bytes) = refl
 
 no_float-call : (call : Call) → has_float (call_data call) ≡ false
-unfolding call_data bare_call named_call pool_call create_call rename_call devices_call create_fs_call destroy_fs_call snapshot_call rename_fs_call size_limit_call fs_limit_call overprovisioning_call read_call
+unfolding call_data bare_call named_call pool_call create_call rename_call devices_call create_fs_call destroy_fs_call snapshot_call rename_fs_call size_limit_call fs_limit_call overprovisioning_call merge_call reports_call read_call
 no_float-call (CreatePool name devices) = rw (no_float-texts devices) refl
 no_float-call (DestroyPool name) = refl
 no_float-call (StopPool name) = refl
@@ -65,16 +64,24 @@ no_float-call (RenameFilesystem pool name new) = refl
 no_float-call (SetSizeLimit pool name limit) = rw (no_float-count limit) refl
 no_float-call (SetFsLimit pool limit) = refl
 no_float-call (SetOverprovisioning pool value) = refl
+no_float-call (SetMerge pool name value) = refl
 no_float-call (FsWrite pool name sector payload) = no_float-write pool name sector payload
 no_float-call (FsRead pool name sector sectors) = refl
 no_float-call (Check pool) = refl
 no_float-call (PoolReport pool) = refl
+no_float-call (PoolReports pools) = rw (no_float-texts pools) refl
 no_float-call EngineStateReport = refl
 no_float-call PowerCycle = refl
 
+no_float-names : (names : List (List ℕ)) → has_float (names_data names) ≡ false
+unfolding names_data
+no_float-names [] = no_float-texts []
+no_float-names (name ∷ []) = refl
+no_float-names (name ∷ next ∷ names) = no_float-texts (name ∷ next ∷ names)
+
 no_float-want : (want : Want) → has_float (want_data want) ≡ false
 unfolding want_data
-no_float-want (wants.Some name mode) = refl
+no_float-want (wants.Some names mode) = rw (no_float-names names) refl
 no_float-want (wants.All mode) = refl
 
 no_float-env : (env : Env) → has_float (env_data env) ≡ false

@@ -1,5 +1,5 @@
 -- calls as the trace shows them: their name and their members, defaults written out, absent values null
-use Rattle.std.specs.Prelude.{ℕ, List, [], ◌∷◌, Bool, codes, map, Option, Some, None}
+use Rattle.std.specs.Prelude.{ℕ, List, Bool, codes, map, Option}
 use Rattle.std.specs.Int.{to_be_bytes, w128}
 use Rattle.hex.specs.Hex.{encode_lower}
 use Rattle.uuid.specs.Text.{hyphenated_text, lower}
@@ -8,7 +8,7 @@ use Rattle.serde_json.specs.View.{items_of}
 use Rattle.st_report.specs.Values.{count, count_or_null, texts}
 use Rattle.st_units.specs.declared.rows.FsSpec.{FsSpec}
 use Rattle.st_model.specs.declared.call.Call.{Call}
-use Rattle.st_model.specs.declared.call.Call.TheVariants.{CreatePool, DestroyPool, StopPool, StartPool, RenamePool, AddDataDevs, InitCache, AddCacheDevs, CreateFilesystems, DestroyFilesystems, SnapshotFilesystem, RenameFilesystem, SetSizeLimit, SetFsLimit, SetOverprovisioning, FsWrite, FsRead, Check, PoolReport, EngineStateReport, PowerCycle}
+use Rattle.st_model.specs.declared.call.Call.TheVariants.{CreatePool, DestroyPool, StopPool, StartPool, RenamePool, AddDataDevs, InitCache, AddCacheDevs, CreateFilesystems, DestroyFilesystems, SnapshotFilesystem, RenameFilesystem, SetSizeLimit, SetFsLimit, SetOverprovisioning, SetMerge, FsWrite, FsRead, Check, PoolReport, PoolReports, EngineStateReport, PowerCycle}
 use Rattle.st_model.specs.declared.call.PoolId.{PoolId}
 use Rattle.st_model.specs.declared.call.PoolId.TheVariants.{ByName, ByUuid}
 use Rattle.st_model.specs.declared.call.Payload.{Payload}
@@ -113,6 +113,18 @@ overprovisioning_call pool value = object (
     member (codes "pool") (string pool) (
     member (codes "value") (boolean value) no_members)))
 
+unfoldable pub merge_call : List ℕ → List ℕ → Bool → Data
+merge_call pool name value = object (
+    member (codes "call") (string (codes "SetMerge")) (
+    member (codes "name") (string name) (
+    member (codes "pool") (string pool) (
+    member (codes "value") (boolean value) no_members))))
+
+unfoldable pub reports_call : List (List ℕ) → Data
+reports_call pools = object (
+    member (codes "call") (string (codes "PoolReports")) (
+    member (codes "pools") (texts pools) no_members))
+
 unfoldable pub fill_call : List ℕ → List ℕ → ℕ → ℕ → ℕ → Data
 fill_call pool name sector byte sectors = object (
     member (codes "call") (string (codes "FsWrite")) (
@@ -158,9 +170,11 @@ call_data (RenameFilesystem pool name new) = rename_fs_call pool name new
 call_data (SetSizeLimit pool name limit) = size_limit_call pool name limit
 call_data (SetFsLimit pool limit) = fs_limit_call pool limit
 call_data (SetOverprovisioning pool value) = overprovisioning_call pool value
+call_data (SetMerge pool name value) = merge_call pool name value
 call_data (FsWrite pool name sector payload) = write_data pool name sector payload
 call_data (FsRead pool name sector sectors) = read_call pool name sector sectors
 call_data (Check pool) = pool_call (codes "Check") pool
 call_data (PoolReport pool) = pool_call (codes "PoolReport") pool
+call_data (PoolReports pools) = reports_call pools
 call_data EngineStateReport = bare_call (codes "EngineStateReport")
 call_data PowerCycle = bare_call (codes "PowerCycle")

@@ -1,9 +1,9 @@
 -- the trace: a line for each event of the log
-use Rattle.std.specs.Prelude.{ℕ, List, [], ◌∷◌, ◌++◌, codes, map}
+use Rattle.std.specs.Prelude.{ℕ, List, [], ◌∷◌, codes, map}
 use Rattle.hex.specs.Hex.{encode_lower}
 use Rattle.serde_json.specs.Data.{Data, string, array, object, no_items, item, no_members, member}
 use Rattle.serde_json.specs.View.{items_of}
-use Rattle.st_report.specs.Values.{count}
+use Rattle.st_report.specs.Values.{count, texts}
 use Rattle.st_replies.specs.Shown.{reply_data, json_line}
 use Rattle.st_wants.specs.declared.want.Want.{Want}
 use Rattle.st_wants.specs.declared.want.Want.TheVariants as wants
@@ -23,8 +23,13 @@ abbrev pub mode_text : Mode → List ℕ
 mode_text Read = codes "read"
 mode_text Write = codes "write"
 
+-- one name alone, several as a list
+unfoldable pub names_data : List (List ℕ) → Data
+names_data (name ∷ []) = string name
+names_data names = texts names
+
 unfoldable pub want_data : Want → Data
-want_data (wants.Some name mode) = array (item (string (codes "some")) (item (string name) (item (string (mode_text mode)) no_items)))
+want_data (wants.Some names mode) = array (item (string (codes "some")) (item (names_data names) (item (string (mode_text mode)) no_items)))
 want_data (wants.All mode) = array (item (string (codes "all")) (item (string (mode_text mode)) no_items))
 
 -- what the call met; of a start that found the state before, with the bytes that it found in place

@@ -3,8 +3,8 @@ ghost use Rattle.serde_json.specs.View.{view};
 ghost use Rattle.st_trace.specs.Calls.{call_data};
 
 use crate::fs_call::{
-    create_fs_call, destroy_fs_call, fs_limit_call, overprovisioning_call, read_call,
-    rename_fs_call, size_limit_call, snapshot_call, write_value,
+    create_fs_call, destroy_fs_call, fs_limit_call, merge_call, overprovisioning_call, read_call,
+    rename_fs_call, reports_call, size_limit_call, snapshot_call, write_value,
 };
 use crate::pool_call::{
     bare_call, create_call, devices_call, named_call, pool_call, rename_call, start_value,
@@ -35,6 +35,7 @@ pub(crate) fn call_value(alloc: Global, call: &Call) -> Result<Value, NoMemory>
         Call::SetSizeLimit { pool, name, limit } => size_limit_call(alloc, pool, name, *limit),
         Call::SetFsLimit { pool, limit } => fs_limit_call(alloc, pool, *limit),
         Call::SetOverprovisioning { pool, value } => overprovisioning_call(alloc, pool, *value),
+        Call::SetMerge { pool, name, value } => merge_call(alloc, pool, name, *value),
         Call::FsWrite {
             pool,
             name,
@@ -49,6 +50,7 @@ pub(crate) fn call_value(alloc: Global, call: &Call) -> Result<Value, NoMemory>
         } => { read_call(alloc, pool, name, *sector, *sectors) }
         Call::Check { pool } => pool_call(alloc, "Check", pool),
         Call::PoolReport { pool } => pool_call(alloc, "PoolReport", pool),
+        Call::PoolReports { pools } => reports_call(alloc, pools),
         Call::EngineStateReport => bare_call(alloc, "EngineStateReport"),
         Call::PowerCycle => bare_call(alloc, "PowerCycle"),
     }

@@ -1,14 +1,15 @@
 ghost use Rattle.std.specs.Prelude.{◌≡◌, IfOk};
 ghost use Rattle.serde_json.specs.View.{view};
-ghost use Rattle.st_trace.specs.Traced.{mode_text, want_data, env_data, origin_data, entry_data, entries_data, arrive_data, grant_data, release_data, event_data, trace_line};
+ghost use Rattle.st_trace.specs.Traced.{mode_text, names_data, want_data, env_data, origin_data, entry_data, entries_data, arrive_data, grant_data, release_data, event_data, trace_line};
 
 use crate::call::call_value;
+use crate::fs_call::name_texts;
 use crate::pool_call::text;
 use serde_json::{Map, Value, json, put};
 use st_history::Event;
 use st_model::{Entry, Env, Origin};
 use st_replies::{json_line, reply_value};
-use st_units::{Bytes, NoMemory};
+use st_units::{Bytes, Name, NoMemory};
 use st_wants::{Mode, Want};
 use std::alloc::Global;
 
@@ -21,15 +22,26 @@ fn mode_text(mode: Mode) -> &'static str
     }
 }
 
+/// One name alone, several as a list.
+#[tactic(auto, unfolding(crate::specs::Traced::names_data))]
+fn names_value(alloc: Global, names: &[Name]) -> Result<Value, NoMemory>
+    ensures { IfOk result (λ value. view value ≡ names_data names.now) }
+{
+    match names {
+        [name] => text(alloc, name.as_str()),
+        _ => name_texts(alloc, names),
+    }
+}
+
 #[tactic(auto, unfolding(crate::specs::Traced::want_data))]
 fn want_value(alloc: Global, want: &Want) -> Result<Value, NoMemory>
     ensures { IfOk result (λ value. view value ≡ want_data want.now) }
 {
     match want {
-        Want::Some(name, mode) => {
-            let name = name.as_str();
+        Want::Some(names, mode) => {
+            let names = names_value(alloc, names.list().items())?;
             let mode = mode_text(*mode);
-            Ok(json!(in alloc; ["some", name, mode])?)
+            Ok(json!(in alloc; ["some", names, mode])?)
         }
         Want::All(mode) => {
             let mode = mode_text(*mode);

@@ -1,7 +1,7 @@
 ghost use Rattle.std.specs.Prelude.{◌≡◌, IfOk};
 ghost use Rattle.serde_json.specs.View.{view};
 ghost use Rattle.st_report.specs.Values.{texts};
-ghost use Rattle.st_trace.specs.Calls.{fs_spec, fs_specs, create_fs_call, destroy_fs_call, snapshot_call, rename_fs_call, size_limit_call, fs_limit_call, overprovisioning_call, fill_call, hex_call, write_data, read_call};
+ghost use Rattle.st_trace.specs.Calls.{fs_spec, fs_specs, create_fs_call, destroy_fs_call, snapshot_call, rename_fs_call, size_limit_call, fs_limit_call, overprovisioning_call, merge_call, reports_call, fill_call, hex_call, write_data, read_call};
 
 use crate::pool_call::text;
 use serde_json::{Map, Value, put};
@@ -33,7 +33,7 @@ fn fs_specs(alloc: Global, filesystems: &[FsSpec]) -> Result<Value, NoMemory>
 }
 
 #[tactic(auto, unfolding(st_report::specs::Values::texts))]
-fn name_texts(alloc: Global, names: &[Name]) -> Result<Value, NoMemory>
+pub(crate) fn name_texts(alloc: Global, names: &[Name]) -> Result<Value, NoMemory>
     ensures { IfOk result (λ value. view value ≡ texts names.now) }
 {
     let mut list = Vec::new(alloc);
@@ -182,6 +182,38 @@ pub(crate) fn overprovisioning_call(
     )?;
     put(&mut members, alloc, "pool", text(alloc, pool.as_str())?)?;
     put(&mut members, alloc, "value", Value::from(value))?;
+    Ok(Value::Object(members))
+}
+
+#[tactic(auto, unfolding(crate::specs::Calls::merge_call))]
+pub(crate) fn merge_call(
+    alloc: Global,
+    pool: &Name,
+    name: &Name,
+    value: bool,
+) -> Result<Value, NoMemory>
+    ensures { IfOk result (λ made. view made ≡ merge_call pool.now name.now value) }
+{
+    let mut members = Map::new(alloc);
+    put(&mut members, alloc, "call", text(alloc, "SetMerge")?)?;
+    put(&mut members, alloc, "name", text(alloc, name.as_str())?)?;
+    put(&mut members, alloc, "pool", text(alloc, pool.as_str())?)?;
+    put(&mut members, alloc, "value", Value::from(value))?;
+    Ok(Value::Object(members))
+}
+
+#[tactic(auto, unfolding(crate::specs::Calls::reports_call))]
+pub(crate) fn reports_call(alloc: Global, pools: &NameList) -> Result<Value, NoMemory>
+    ensures { IfOk result (λ value. view value ≡ reports_call pools.now) }
+{
+    let mut members = Map::new(alloc);
+    put(&mut members, alloc, "call", text(alloc, "PoolReports")?)?;
+    put(
+        &mut members,
+        alloc,
+        "pools",
+        name_texts(alloc, pools.items())?,
+    )?;
     Ok(Value::Object(members))
 }
 
