@@ -73,19 +73,42 @@ fn rows<R: Rack>(
     )
 }
 
-// The rows for calls of so many sectors.
-fn sized<R: Rack>(rt: &HostRuntime, rack: &mut R, dev: &DevPath, sectors: usize) -> io::Result<()> {
+// A row for the first write of every sector.
+fn first_row<R: Rack>(
+    rt: &HostRuntime,
+    rack: &mut R,
+    dev: &DevPath,
+    bytes: &[u8],
+) -> io::Result<()> {
+    let len = bytes.len();
+    if rack.sectors(dev) != Some(SECTORS) || len == 0 || len % 512 != 0 || len > 65_536 {
+        return Ok(());
+    }
+    let start = Instant::now(rt)?;
+    let done = write_often(rack, dev, SECTORS, bytes, 512 * SECTORS / len as u64);
+    let taken = micros(rt, &start)?;
+    println!(*rt; "each sector written for the first time: {taken} us, done: {done}")
+}
+
+// The rows for calls of so many sectors, on a new device.
+fn sized(rt: &HostRuntime, dev: &DevPath, sectors: usize) -> io::Result<()> {
     if sectors > 128 {
         return Ok(());
     }
-    let mut block = vec![in rt.alloc(); 1u8; 33_554_432]?;
+    let start = Instant::now(rt)?;
+    let Ok(mut rack) = one_device(rt.alloc(), dev) else {
+        return no_memory(rt);
+    };
+    let made = micros(rt, &start)?;
+    println!(*rt; "calls of {sectors} sectors on a device that is made in {made} us")?;
     let mut bytes = vec![in rt.alloc(); 2u8; 512 * sectors]?;
-    println!(*rt; "calls of {sectors} sectors")?;
-    rows(rt, rack, dev, &mut block, &mut bytes)
+    first_row(rt, &mut rack, dev, &bytes)?;
+    let mut block = vec![in rt.alloc(); 1u8; 33_554_432]?;
+    rows(rt, &mut rack, dev, &mut block, &mut bytes)
 }
 
-fn one_device(alloc: Global, path: DevPath) -> Result<NoFaultRack, NoMemory> {
-    NoFaultRack::blank(alloc, &[(path, SECTORS)])
+fn one_device(alloc: Global, dev: &DevPath) -> Result<NoFaultRack, NoMemory> {
+    NoFaultRack::blank(alloc, &[(dev.copy()?, SECTORS)])
 }
 
 fn no_memory(rt: &HostRuntime) -> io::Result<()> {
@@ -96,16 +119,9 @@ fn main(rt: HostRuntime) -> io::Result<()> {
     if env::args(&rt)?.nth(1).is_none() {
         return Ok(());
     }
-    let alloc = rt.alloc();
-    let (Ok(dev), Ok(path)) = (
-        DevPath::read(alloc, b"/dev/sim0"),
-        DevPath::read(alloc, b"/dev/sim0"),
-    ) else {
+    let Ok(dev) = DevPath::read(rt.alloc(), b"/dev/sim0") else {
         return no_memory(&rt);
     };
-    let Ok(mut rack) = one_device(alloc, path) else {
-        return no_memory(&rt);
-    };
-    sized(&rt, &mut rack, &dev, 1)?;
-    sized(&rt, &mut rack, &dev, 128)
+    sized(&rt, &dev, 1)?;
+    sized(&rt, &dev, 128)
 }

@@ -1,4 +1,4 @@
-//! Racks with faults, headers and slots.
+//! Racks, headers and slots.
 #![tactic(auto)]
 
 #[cfg(test)]

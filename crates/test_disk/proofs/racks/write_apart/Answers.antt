@@ -4,7 +4,6 @@ use Rattle.std.specs.Str.{bytes_eq}
 use Rattle.std.proofs.lemmas.Slice.Eq.{bytes_eq-Decides}
 use Rattle.st_rack.specs.Device.{Path}
 use Rattle.st_rack.specs.Calls.{Devices, Has, names}
-use Rattle.st_memrack.specs.MemRack.{mem_devs}
 use Rattle.test_disk.proofs.racks.write_apart.Goals as goal
 
 one_distinct : (dev : Path) → IsDistinct bytes_eq (dev ∷ [])
@@ -19,9 +18,9 @@ one_there : (devs : Devices) (dev : Path) (n : ℕ) → Has devs dev n → (p : 
 one_there devs dev n has p named = (n, subst (λ (q : Path). Has devs q n) ((bytes_eq-Decides dev p).0 (or_none (bytes_eq dev p) named)) has)
 
 pub split_off-requires-clause-distinct : goal.split_off-requires-clause-distinct
-split_off-requires-clause-distinct c = subst (λ (l : List Path). IsDistinct bytes_eq l) (sym c.in_ok-list.ensures) (one_distinct c.args.dev.now)
+split_off-requires-clause-distinct g c = subst (λ (l : List Path). IsDistinct bytes_eq l) (sym c.in_ok-list.ensures) (one_distinct c.args.dev.now)
 
 pub split_off-requires-clause-there : goal.split_off-requires-clause-there
-split_off-requires-clause-there c =
-    subst (λ (l : List Path). (p : Path) → names l p ≡ true → (m : ℕ) × Has (mem_devs c.args.rack.now) p m) (sym c.in_ok-list.ensures)
-    (one_there (mem_devs c.args.rack.now) c.args.dev.now c.in-Some.field-0 (sym c.in-Some.ensures))
+split_off-requires-clause-there g c =
+    subst (λ (l : List Path). (p : Path) → names l p ≡ true → (m : ℕ) × Has (g.R.Rack.devs c.args.rack.now) p m) (sym c.in_ok-list.ensures)
+    (one_there (g.R.Rack.devs c.args.rack.now) c.args.dev.now c.in-Some.field-0 (sym c.in-Some.ensures))
