@@ -6,3 +6,5 @@ pub mod Merged
 pub mod Calming
 pub mod Unique
 pub mod Committing
+pub mod Segmented
+pub mod Engine

@@ -6,6 +6,7 @@ use Rattle.std.proofs.Math.Seq.{take-append_seam, drop-append_seam}
 use Rattle.std.proofs.lemmas.Slice.Eq.{bytes_eq-Decides}
 use Rattle.std.proofs.lemmas.Bool.{cases_Bool}
 use Rattle.st_fields.specs.Fields.{put_over}
+use Rattle.st_limits.specs.declared.TheConstants.{BLOCK_BYTES}
 use Rattle.st_poolrec.specs.declared.record.PoolRec.{PoolRec}
 use Rattle.st_flexrec.specs.declared.rows.CellRow.{CellRow}
 use Rattle.st_rack.specs.Story.{within}
@@ -31,10 +32,10 @@ module _ (rec : PoolRec) (rows : List CellRow) where
       own_bytes : (k : ℕ) (row : CellRow) → slice_get rows k ≡ Some row → nat_eq row.cell q.0 ≡ true → bytes_in c (range_of rec row.place) ≡ put_over (bytes_in m (range_of rec row.place)) q.1 (cells (c r.0) r.1 r.2)
       own_bytes k row is hit =
           let own = lies.own k row is hit in
-          let one : AgreesOn (r.0, lies.base, 65536) (r ∷ []) c m = subst (λ (x : Range). AgreesOn x (r ∷ []) c m) own (agrees k row is) in
-          let two : AgreesOn (r.0, lies.base, 65536) ((r.0, lies.base + q.1, r.2) ∷ []) c m = subst (λ (n : ℕ). AgreesOn (r.0, lies.base, 65536) ((r.0, n, r.2) ∷ []) c m) lies.at one in
+          let one : AgreesOn (r.0, lies.base, BLOCK_BYTES) (r ∷ []) c m = subst (λ (x : Range). AgreesOn x (r ∷ []) c m) own (agrees k row is) in
+          let two : AgreesOn (r.0, lies.base, BLOCK_BYTES) ((r.0, lies.base + q.1, r.2) ∷ []) c m = subst (λ (n : ℕ). AgreesOn (r.0, lies.base, BLOCK_BYTES) ((r.0, n, r.2) ∷ []) c m) lies.at one in
           subst (λ (x : Range). bytes_in c x ≡ put_over (bytes_in m x) q.1 (cells (c r.0) r.1 r.2)) (sym own)
-          (piece_bytes r.0 lies.base q.1 r.2 65536 c m lies.inside two ∙ ap (λ (n : ℕ). put_over (bytes_in m (r.0, lies.base, 65536)) q.1 (cells (c r.0) n r.2)) (sym lies.at))
+          (piece_bytes r.0 lies.base q.1 r.2 BLOCK_BYTES c m lies.inside two ∙ ap (λ (n : ℕ). put_over (bytes_in m (r.0, lies.base, BLOCK_BYTES)) q.1 (cells (c r.0) n r.2)) (sym lies.at))
 
       other_bytes : (k : ℕ) (row : CellRow) → slice_get rows k ≡ Some row → nat_eq row.cell q.0 ≡ false → bytes_in c (range_of rec row.place) ≡ bytes_in m (range_of rec row.place)
       other_bytes k row is miss =

@@ -1,11 +1,17 @@
 -- What is true of all pools, devices and images.
-use Rattle.std.specs.Prelude.{◌≡◌, ◌≢◌, ℕ, ◌+◌, List, Option, Some, map, slice_get}
+use Rattle.std.specs.Prelude.{◌≡◌, ◌≢◌, ℕ, ◌+◌, true, List, Option, Some, map, slice_get}
+use Rattle.std.specs.List.{AllByRecursion}
+use Rattle.st_limits.specs.Sums.{IsDeviceSize}
+use Rattle.st_units.specs.declared.rows.DevRow.{DevRow}
+use Rattle.st_datatier.specs.Segments.{segment_rows}
+use Rattle.st_poolrec.specs.Conditions.{take_in_order}
 use Rattle.st_poolrec.specs.declared.record.PoolRec.{PoolRec}
 use Rattle.st_flexrec.specs.declared.rows.CellRow.{CellRow}
 use Rattle.st_flexlog.specs.declared.state.FlexState.{FlexState}
 use Rattle.st_model.specs.declared.call.Call.{Call}
 use Rattle.st_model.specs.declared.state.PoolMode.TheVariants.{Up, Stopped}
 use Rattle.st_model.specs.declared.state.PoolState.{PoolState}
+use Rattle.st_model.specs.declared.state.EngineState.{EngineState}
 use Rattle.st_model.specs.Checks.{cooled, halted}
 use Rattle.st_model.specs.Merged.{merged}
 use Rattle.st_rack.specs.Device.{Path, State, Image, Settling, held}
@@ -19,12 +25,21 @@ use Rattle.st_image.specs.Survivors.{Piece, put_pieces, IsBefore, after, Survive
 use Rattle.st_image.specs.Kept.{as_pair, in_use, Kept}
 use Rattle.st_image.specs.Calm.{Shows, Calm}
 use Rattle.st_image.specs.Committed.{Committed}
+use Rattle.st_image.specs.Rack.{RackStands, IsForeign}
 use Rattle.st_image.specs.Pieces.{ArePieces, bytes_of}
 use Rattle.st_image.specs.Frame.{AgreesOn}
 
 -- An image stands for one thing at most.
 abbrev pub StandsOnce : Type 0
 StandsOnce = (p : ℕ) (devs : Devices) (c : Image) (a b : Option PoolState) → StandsFor p devs c a → StandsFor p devs c b → a ≡ b
+
+-- A rack's devices stand for one state of the engine at most.
+abbrev pub RackStandsOnce : Type 0
+RackStandsOnce = (devs : Devices) (c : Image) (s t : EngineState) → RackStands devs c s → RackStands devs c t → s ≡ t
+
+-- Where they stand for a state, no serial breaks a rule.
+abbrev pub NotForeign : Type 0
+NotForeign = (devs : Devices) (c : Image) (s : EngineState) → RackStands devs c s → (p : ℕ) → IsForeign devs c p → ⊥
 
 -- What a crash leaves of a pool that is up stands for its merge, with the cells as reads give them.
 abbrev pub UpStands : Type 0
@@ -68,3 +83,7 @@ OtherCommits = (pool : PoolState) (call : Call) (devs : Devices) (q : PoolState)
 abbrev pub SameCommits : Type 0
 SameCommits = (pool : PoolState) (call : Call) (devs : Devices) (q : PoolState) → Survives pool call devs (Some q) → ((r : PoolState) → after pool call devs ≡ Some r → r.commits ≡ pool.commits + 1) → q.commits ≡ pool.commits
     → IsBefore pool call (Some q)
+
+-- The blocks that a data tier has taken, as segments of a pool's rows, keep the conditions of its record.
+abbrev pub SegmentsInOrder : Type 0
+SegmentsInOrder = (n : ℕ) (rows : List DevRow) → AllByRecursion (λ (row : DevRow). IsDeviceSize row.sectors) rows → take_in_order 0 (segment_rows 0 n rows) rows ≡ true

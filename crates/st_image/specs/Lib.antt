@@ -5,6 +5,7 @@ pub mod Survivors
 pub mod Frame
 pub mod Kept
 pub mod Calm
+pub mod Rack
 pub mod Committed
 pub mod Pieces
 pub mod Laws

@@ -1,5 +1,6 @@
 -- Where the devices of a pool are looked at, and as what: the readers of all sealed texts.
-use Rattle.std.specs.Prelude.{ℕ, zero, suc, ◌*◌, Bool, true, false, ◌&&◌, ◌||◌, nat_lt, nat_eq, [], ◌∷◌, Option, Some, None, if◌then◌else◌}
+use Rattle.std.specs.Prelude.{ℕ, zero, suc, ◌+◌, ◌*◌, Bool, true, false, ◌&&◌, ◌||◌, nat_lt, nat_eq, [], ◌∷◌, Option, Some, None, if◌then◌else◌}
+use Rattle.st_limits.specs.declared.TheConstants.{SECTOR_BYTES, BLOCK_SECTORS, RESERVED_SECTORS, FLEX_BLOCKS}
 use Rattle.st_fields.specs.Slot.{Found}
 use Rattle.st_header.specs.Header.{copy_of}
 use Rattle.st_rack.specs.Story.{Content}
@@ -52,4 +53,4 @@ look_of k l f = if looked_at (is_first k) l then looks l f else None
 
 -- where the records of a device end, and its blocks for data begin
 abbrev pub records_end : Bool → ℕ
-records_end first = if first then 1835008 else 131072
+records_end first = if first then SECTOR_BYTES * (RESERVED_SECTORS + FLEX_BLOCKS * BLOCK_SECTORS) else SECTOR_BYTES * RESERVED_SECTORS

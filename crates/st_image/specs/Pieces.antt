@@ -1,5 +1,6 @@
 -- Pieces of cells on devices, any number of them.
 use Rattle.std.specs.Prelude.{◌≡◌, ℕ, ◌+◌, ◌<◌, ◌≤◌, true, false, nat_eq, List, [], ◌∷◌, ◌++◌, Some, slice_get}
+use Rattle.st_limits.specs.declared.TheConstants.{BLOCK_BYTES}
 use Rattle.st_poolrec.specs.declared.record.PoolRec.{PoolRec}
 use Rattle.st_flexrec.specs.declared.rows.CellRow.{CellRow}
 use Rattle.st_rack.specs.Device.{Image, cells}
@@ -12,8 +13,8 @@ pub record PieceAt (rec : PoolRec) (rows : List CellRow) (q : Piece) (r : Range)
   pub base : ℕ
   pub at : r.1 ≡ base + q.1
   pub size : r.2 ≡ q.2
-  pub inside : q.1 + r.2 ≤ 65536
-  pub own : (k : ℕ) (row : CellRow) → slice_get rows k ≡ Some row → nat_eq row.cell q.0 ≡ true → range_of rec row.place ≡ (r.0, base, 65536)
+  pub inside : q.1 + r.2 ≤ BLOCK_BYTES
+  pub own : (k : ℕ) (row : CellRow) → slice_get rows k ≡ Some row → nat_eq row.cell q.0 ≡ true → range_of rec row.place ≡ (r.0, base, BLOCK_BYTES)
   pub others : (k : ℕ) (row : CellRow) → slice_get rows k ≡ Some row → nat_eq row.cell q.0 ≡ false
       → (i : ℕ) → (range_of rec row.place).1 ≤ i → i < (range_of rec row.place).1 + (range_of rec row.place).2 → covers (r ∷ []) (range_of rec row.place).0 i ≡ false
 

@@ -13,6 +13,7 @@ use Rattle.st_model.specs.declared.state.FsState.{FsState}
 use Rattle.st_model.specs.declared.state.CacheState.{CacheState}
 use Rattle.st_model.specs.declared.state.PoolMode.TheVariants.{Stopped, Incomplete}
 use Rattle.st_model.specs.declared.state.PoolState.{PoolState}
+use Rattle.st_limits.specs.declared.TheConstants.{SECTOR_BYTES, BLOCK_BYTES}
 use Rattle.st_limits.specs.Sums.{cache_capacity}
 use Rattle.st_model.specs.Sums.{cache_rows, sectors_in}
 use Rattle.st_model.specs.Merged.{merged}
@@ -25,7 +26,7 @@ Range = Path × ℕ × ℕ
 
 abbrev pub range_in : List DevRow → Option (ℕ × ℕ) → Range
 range_in rows None = ([], 0, 0)
-range_in rows (Some place) = (path_in (slice_get rows place.0), 512 * place.1, 65536)
+range_in rows (Some place) = (path_in (slice_get rows place.0), SECTOR_BYTES * place.1, BLOCK_BYTES)
 
 -- where a block of the linear table lies
 abbrev pub range_of : PoolRec → ℕ → Range

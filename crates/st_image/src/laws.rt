@@ -1,10 +1,20 @@
 //! Laws of what devices stand for and keep. They do nothing when they run.
 
-ghost use Rattle.st_image.specs.Laws.{StandsOnce, UpStands, UpIsKept, CommittedShows, CellsWithPieces, KeptWhereSame, KeptBySync, KeptByCut, KeptByStop, OtherCommits, SameCommits};
+ghost use Rattle.st_image.specs.Laws.{StandsOnce, RackStandsOnce, NotForeign, UpStands, UpIsKept, CommittedShows, CellsWithPieces, KeptWhereSame, KeptBySync, KeptByCut, KeptByStop, OtherCommits, SameCommits, SegmentsInOrder};
 
 /// Devices stand for one thing at most.
 pub fn stands_once()
     ensures { StandsOnce }
+{}
+
+/// A rack's devices stand for one state at most.
+pub fn rack_stands_once()
+    ensures { RackStandsOnce }
+{}
+
+/// Devices that stand for a state are not foreign.
+pub fn not_foreign()
+    ensures { NotForeign }
 {}
 
 /// What a crash leaves of a pool that is up stands for its merge.
@@ -55,4 +65,9 @@ pub fn other_commits()
 /// The same commits tell that it wasn't.
 pub fn same_commits()
     ensures { SameCommits }
+{}
+
+/// The blocks that a data tier has taken are segments of a record.
+pub fn segments_in_order()
+    ensures { SegmentsInOrder }
 {}
