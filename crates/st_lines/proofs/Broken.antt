@@ -11,7 +11,7 @@ use Rattle.st_lines.specs.declared.read.ReadStop.{ReadStop}
 use Rattle.st_lines.specs.Limits.{broken_by_lines, first_broken}
 use Rattle.st_lines.specs.Lines.{lines_of}
 
-or_none : (o : Option Limit) → option_or o None ≡ o
+pub or_none : (o : Option Limit) → option_or o None ≡ o
 or_none None = refl
 or_none (Some limit) = refl
 
@@ -22,7 +22,7 @@ is_long : (n : ℕ) → 67108864 < n → nat_lt 67108864 n ≡ true
 is_long n h = grind (arith, common_steps)
 
 -- an input that isn't too long
-first_broken-short : (input : List ℕ) → length input ≤ 67108864 → first_broken input ≡ broken_by_lines 1 (lines_of input)
+pub first_broken-short : (input : List ℕ) → length input ≤ 67108864 → first_broken input ≡ broken_by_lines 1 (lines_of input)
 unfolding first_broken
 first_broken-short input h =
     ap (λ b. option_or (broken_by_lines 1 (lines_of (take 67108865 input))) (cond b (Some Bytes) None)) (not_long (length input) h)
@@ -30,7 +30,7 @@ first_broken-short input h =
     ∙ ap (λ text. broken_by_lines 1 (lines_of text)) (take_all 67108865 input (omega (arith, h)))
 
 -- one that is
-first_broken-long : (input : List ℕ) → 67108864 < length input → first_broken input ≡ option_or (broken_by_lines 1 (lines_of (take 67108865 input))) (Some Bytes)
+pub first_broken-long : (input : List ℕ) → 67108864 < length input → first_broken input ≡ option_or (broken_by_lines 1 (lines_of (take 67108865 input))) (Some Bytes)
 unfolding first_broken
 first_broken-long input h =
     ap (λ b. option_or (broken_by_lines 1 (lines_of (take 67108865 input))) (cond b (Some Bytes) None)) (is_long (length input) h)

@@ -39,7 +39,7 @@ lines_of-one : (text : List ℕ) → 0 < length text → position_or_len is_feed
 lines_of-one text h e = ap no_empty_last (slice_split_none is_feed text (λ k d l. fails_before_first is_feed text k d (omega (arith, e)))) ∙ no_empty_last-one text h
 
 -- the first line of a text, and the lines after it
-lines_of-first : (text : List ℕ) (n : ℕ) → 0 < length text → n ≡ position_or_len is_feed text → lines_of text ≡ take n text ∷ lines_of (drop (n + 1) text)
+pub lines_of-first : (text : List ℕ) (n : ℕ) → 0 < length text → n ≡ position_or_len is_feed text → lines_of text ≡ take n text ∷ lines_of (drop (n + 1) text)
 lines_of-first text n h is = ⊎_elim
     (λ l. lines_of-found text l ∙ ap (λ k. take k text ∷ lines_of (drop (k + 1) text)) (sym is))
     (λ g.

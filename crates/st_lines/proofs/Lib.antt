@@ -5,3 +5,5 @@ pub mod Joined
 pub mod Known
 pub mod Progress
 pub mod Prefix
+pub mod Printed
+pub mod Stays

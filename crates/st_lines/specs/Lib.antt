@@ -1,4 +1,5 @@
 pub mod GiveBack
 pub mod Limits
 pub mod Lines
+pub mod Printing
 pub mod Spans

@@ -1,5 +1,5 @@
 -- the limits on an input: 65,536 lines, 16,384 bytes a line, 67,108,864 bytes
-use Rattle.std.specs.Prelude.{ℕ, ◌+◌, List, [], ◌∷◌, length, take, nat_lt, Option, Some, None, if◌then◌else◌}
+use Rattle.std.specs.Prelude.{◌≡◌, ℕ, ◌+◌, List, [], ◌∷◌, ◌++◌, length, take, nat_lt, Option, Some, None, if◌then◌else◌}
 use Rattle.std.specs.Option.{option_or}
 use Rattle.st_limits.specs.declared.TheConstants.{MAX_LINES, MAX_LINE_BYTES, MAX_INPUT_BYTES}
 use Rattle.st_lines.specs.declared.limit.Limit.{Limit}
@@ -24,3 +24,7 @@ unfoldable pub first_broken : List ℕ → Option Limit
 first_broken input =
     option_or (broken_by_lines 1 (lines_of (take (MAX_INPUT_BYTES + 1) input)))
     (if nat_lt MAX_INPUT_BYTES (length input) then Some Bytes else None)
+
+-- what a beginning of an input breaks first the whole breaks first, whatever follows
+abbrev pub FirstStays : Type 0
+FirstStays = (input more : List ℕ) (limit : Limit) → first_broken input ≡ Some limit → first_broken (input ++ more) ≡ Some limit

@@ -10,7 +10,7 @@ mod put;
 mod read;
 mod stream;
 
-pub use laws::lines_give_back;
+pub use laws::{first_limit_stays, lines_give_back};
 pub use limit::Limit;
 pub use lines::Lines;
 pub use memory::{MemorySink, MemorySource};

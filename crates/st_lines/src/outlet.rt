@@ -1,6 +1,7 @@
 ghost use Rattle.std.specs.Prelude.{ℕ, List, ◌≡◌, ◌++◌, ◌+◌, ◌≤◌, length, [], take, IfOk, OnOk, OnErr};
 ghost use Rattle.std.specs.Io.KnownBytes.{Appends};
 ghost use Rattle.st_units.specs.Causes.{HasCause};
+ghost use Rattle.st_lines.specs.Printing.{Prints, Stops};
 
 use crate::put::put_all;
 use crate::stream::{Failed, Sink};
@@ -52,6 +53,15 @@ impl Outlet {
             return Ok(());
         }
         put_all(sink, bytes)
+    }
+
+    /// Takes bytes, as the next piece of an output.
+    pub fn print<K: Sink>(&mut self, sink: &mut K, text: &[u8]) -> Result<(), Failed>
+        ensures prints { OnOk result (Prints (K.held sink.old) self.old (K.held sink.new) self.new text.now) }
+        ensures stops { OnErr result (Stops (K.held sink.old) self.old (K.held sink.new) text.now) }
+        ensures cause { HasCause (K.faults sink.old) (K.faults sink.new) result }
+    {
+        self.take(sink, text)
     }
 
     /// Puts all that waits.
