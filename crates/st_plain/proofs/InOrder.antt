@@ -12,7 +12,7 @@ use Rattle.st_model.specs.declared.info.PoolInfo.{PoolInfo}
 use Rattle.st_model.specs.Look.{Text}
 use Rattle.st_model.specs.ValidPool.{EachPair}
 use Rattle.st_model.specs.Shown.{comes_before, place_among}
-use Rattle.st_plain.specs.Parts.{info_at}
+use Rattle.st_model.specs.Pieces.{info_at}
 use Rattle.st_plain.specs.Reported.{entered}
 
 abbrev text_cmp : Text → Text → Ordering

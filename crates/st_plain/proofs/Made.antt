@@ -73,7 +73,7 @@ each_found (c ∷ cs) apart =
 
 -- a cell that was there has the state's pool
 still_shown : (s : EngineState) (cs : List CellView) (t : TableState) → PartIs s (pools_of cs) t → AllByRecursion (CellIsShown s) cs
-still_shown s cs t part = All-weaker _ _ cs (λ (c : CellView) h. inr (sym (part.pools c.pool.name) ∙ h)) (each_found cs part.apart)
+still_shown s cs t part = All-weaker _ _ cs (λ (c : CellView) h. inr (sym (part.pools.found c.pool.name) ∙ h)) (each_found cs part.pools.apart)
 
 -- the look-up and the names agree
 pub named : (n : Text) (ps : List PoolState) → list_any (bytes_eq n) (pool_names ps) ≡ is_some (pool_at n ps)
@@ -88,7 +88,7 @@ named n (p ∷ ps) = ap (λ b. b || list_any (bytes_eq n) (pool_names ps)) (nat_
 answer-is : (s : EngineState) (name : Text) (paths : List Text) (cs : List CellView) (t : TableState) → IsValid s → PartIs s (pools_of cs) t
     → table_answer t (pool_at name (pools_of cs)) name paths ≡ create_answer s name paths
 answer-is s name paths cs t valid part =
-    ap (λ o. table_answer t o name paths) (part.pools name) ∙ (ap (λ u. table_answer u (pool_at name (started s)) name paths) part.board ∙ table_answer-is s name paths valid.apart)
+    ap (λ o. table_answer t o name paths) (part.pools.found name) ∙ (ap (λ u. table_answer u (pool_at name (started s)) name paths) part.board ∙ table_answer-is s name paths valid.apart)
 
 abbrev outcome : EngineState → Text → List Text → Option Reply → Reply × EngineState
 outcome s name paths answer = unless_answered answer s (accepted (Created true (Some (s.next, distinct paths))), with_pool s (new_pool s.next name (data_rows s.devices (distinct paths))))
@@ -136,13 +136,15 @@ board-is s name paths =
 part_with : (s : EngineState) (name : Text) (paths : List Text) (ps : List PoolState) (t : TableState) → PartIs s ps t → create_answer s name paths ≡ None
     → PartIs (with_pool s (new_pool s.next name (data_rows s.devices (distinct paths)))) (ps ++ new_pool s.next name (data_rows s.devices (distinct paths)) ∷ []) (with_known (table_of s) (known_made (table_of s) name paths))
 part_with s name paths ps t part fresh = record {
-  apart =
-      let none : pool_at name ps ≡ None = part.pools name ∙ none_called name s.pools (create_fresh s name paths fresh).names in
+  pools = record {
+    apart =
+      let none : pool_at name ps ≡ None = part.pools.found name ∙ none_called name s.pools (create_fresh s name paths fresh).names in
       let new_name : list_any (bytes_eq name) (pool_names ps) ≡ false = named name ps ∙ ap is_some none in
-      subst (IsDistinct bytes_eq) (sym (map-append (λ (p : PoolState). p.name) ps (q ∷ []))) (IsDistinct-push nat_list_eq_equiv (pool_names ps) name part.apart new_name);
-  pools = λ n.
-      find-append (is_called n) ps (q ∷ []) ∙ (ap (λ o. option_or o (pool_at n (q ∷ []))) (part.pools n)
+      subst (IsDistinct bytes_eq) (sym (map-append (λ (p : PoolState). p.name) ps (q ∷ []))) (IsDistinct-push nat_list_eq_equiv (pool_names ps) name part.pools.apart new_name);
+    found = λ n.
+      find-append (is_called n) ps (q ∷ []) ∙ (ap (λ o. option_or o (pool_at n (q ∷ []))) (part.pools.found n)
       ∙ (sym (find-append (is_called n) (started s) (q ∷ [])) ∙ ap (pool_at n) (sym (filter-append (λ (p : PoolState). is_started p.mode) s.pools (q ∷ [])))));
+  };
   board = board-is s name paths;
 }
   where
@@ -181,7 +183,7 @@ few_started (p ∷ ps) = less_or_more (is_started p.mode) p (started_pools ps) p
 -- no more cells than pools
 pub few_cells : (s : EngineState) (cs : List CellView) (t : TableState) → IsValid s → PartIs s (pools_of cs) t → length cs ≤ 16
 few_cells s cs t valid part =
-    let most = length-le_from_is_member nat_list_eq_equiv (pool_names (pools_of cs)) (pool_names (started s)) part.apart (λ n h. named n (started s) ∙ (ap is_some (sym (part.pools n)) ∙ (sym (named n (pools_of cs)) ∙ h))) in
+    let most = length-le_from_is_member nat_list_eq_equiv (pool_names (pools_of cs)) (pool_names (started s)) part.pools.apart (λ n h. named n (started s) ∙ (ap is_some (sym (part.pools.found n)) ∙ (sym (named n (pools_of cs)) ∙ h))) in
     let cells : length (pool_names (pools_of cs)) ≡ length cs = length-map (pools_of cs) (λ (p : PoolState). p.name) ∙ length-map cs (λ (c : CellView). c.pool) in
     let pools : length (pool_names (started s)) ≡ length (started s) = length-map (started s) (λ (p : PoolState). p.name) in
     omega (arith, most, cells, pools, few_started s.pools, valid.count)

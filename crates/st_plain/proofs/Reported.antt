@@ -19,7 +19,7 @@ use Rattle.st_model.specs.ValidPool.{EachPair}
 use Rattle.st_model.specs.Shown.{infos_with, place_among, pool_info, started_pools, table_info}
 use Rattle.st_model.specs.steps.EngineStateReport.{report_plain}
 use Rattle.st_model.proofs.OnTable.{find-map, shown_table-is}
-use Rattle.st_plain.specs.Parts.{InfosAre, info_at}
+use Rattle.st_model.specs.Pieces.{ShowPools, every, info_at}
 use Rattle.st_plain.specs.Reported.{entered}
 use Rattle.st_plain.proofs.InOrder.{entered_one}
 
@@ -72,12 +72,12 @@ infos_entered infos (p ∷ ps) =
 info_found : (pools : List PoolState) (n : Text) → info_at n (map pool_info pools) ≡ option_map pool_info (pool_at n pools)
 info_found pools n = find-map pool_info (is_called n) (λ (i : PoolInfo). bytes_eq i.name n) (λ (p : PoolState). ap (λ t. bytes_eq t n) (pool_info-name p)) pools
 
-in_order : (s : EngineState) (infos : List PoolInfo) → IsValid s → InfosAre s infos → entered [] infos ≡ infos_with [] (started_pools s.pools)
+in_order : (s : EngineState) (infos : List PoolInfo) → IsValid s → ShowPools every s infos → entered [] infos ≡ infos_with [] (started_pools s.pools)
 in_order s infos valid are =
     let distinct = subst (IsDistinct bytes_eq) (sym (info_names (started s))) (started_distinct s.devices s.pools valid.apart) in
     entered_one infos (map pool_info (started s)) are.apart distinct (λ n. are.shown n ∙ sym (info_found (started s) n)) ∙ sym (infos_entered [] (started s))
 
-pub report-is : (s : EngineState) (infos : List PoolInfo) → IsValid s → InfosAre s infos → accepted (Engine (shown_table (table_of s)) (entered [] infos)) ≡ (step s EngineStateReport Plain).0
+pub report-is : (s : EngineState) (infos : List PoolInfo) → IsValid s → ShowPools every s infos → accepted (Engine (shown_table (table_of s)) (entered [] infos)) ≡ (step s EngineStateReport Plain).0
 unfolding report_plain
 report-is s infos valid are =
     ap (λ t. accepted (Engine t (entered [] infos))) (shown_table-is s) ∙ ap (λ is. accepted (Engine (table_info s) is)) (in_order s infos valid are)

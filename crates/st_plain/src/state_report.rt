@@ -5,7 +5,7 @@ ghost use Rattle.st_model.specs.declared.state.EngineState.{EngineState};
 ghost use Rattle.st_model.specs.Parts.{table_of, shown_table};
 ghost use Rattle.st_model.specs.Step.{step};
 ghost use Rattle.st_model.specs.Valid.{IsValid};
-ghost use Rattle.st_plain.specs.Parts.{InfosAre};
+ghost use Rattle.st_model.specs.Pieces.{ShowPools, every};
 ghost use Rattle.st_plain.specs.Reported.{entered};
 
 use st_model::{Given, Infos, PoolInfo, Reply, TableInfo, insert_info};
@@ -19,7 +19,7 @@ pub fn report(
     table: Shared<TableInfo>,
     infos: RoomyList<Shared<PoolInfo>>,
 ) -> Result<Reply, NoMemory>
-    ensures { IfOk result (λ reply. (s : EngineState) → IsValid s → table ≡ shown_table (table_of s) → InfosAre s infos.items → reply ≡ (step s EngineStateReport Plain).0) }
+    ensures { IfOk result (λ reply. (s : EngineState) → IsValid s → table ≡ shown_table (table_of s) → ShowPools every s infos.items → reply ≡ (step s EngineStateReport Plain).0) }
 {
     let list = in_order(alloc, infos)?;
     Ok(Reply::accepted(Given::Engine(table, list)))
