@@ -8,3 +8,4 @@ pub mod Unique
 pub mod Committing
 pub mod Segmented
 pub mod Engine
+pub mod EngineKeeping

@@ -25,6 +25,7 @@ use Rattle.st_image.specs.Survivors.{Piece, put_pieces, IsBefore, after, Survive
 use Rattle.st_image.specs.Kept.{as_pair, in_use, Kept}
 use Rattle.st_image.specs.Calm.{Shows, Calm}
 use Rattle.st_image.specs.Committed.{Committed}
+use Rattle.st_image.specs.EngineKept.{EngineKept}
 use Rattle.st_image.specs.Rack.{RackStands, IsForeign}
 use Rattle.st_image.specs.Pieces.{ArePieces, bytes_of}
 use Rattle.st_image.specs.Frame.{AgreesOn}
@@ -70,6 +71,15 @@ KeptBySync = (pool : PoolState) (devs : Devices) (s t : State) → Kept pool dev
 -- A power cut keeps it.
 abbrev pub KeptByCut : Type 0
 KeptByCut = (pool : PoolState) (devs : Devices) (s t : State) → Kept pool devs s → (rack : Devices) → ((k : ℕ) (d : Path) → slice_get (paths (in_use pool devs)) k ≡ Some d → (n : ℕ) × Has rack d n) → AllCut rack s t → Kept pool devs t
+
+-- So it is of a whole rack: a sync of a device keeps each pool, and a free device goes on standing for none.
+abbrev pub EngineKeptBySync : Type 0
+EngineKeptBySync = (e : EngineState) (devs : Devices) (s t : State) → EngineKept e devs s → (dev : Path) → OnDevice dev Settling s t → EngineKept e devs t
+
+-- A power cut keeps all of them, where the devices that pools use are in the rack.
+abbrev pub EngineKeptByCut : Type 0
+EngineKeptByCut = (e : EngineState) (devs : Devices) (s t : State) → EngineKept e devs s → AllByRecursion (λ (pool : PoolState). (k : ℕ) (d : Path) → slice_get (paths (in_use pool devs)) k ≡ Some d → (n : ℕ) × Has devs d n) e.pools
+    → AllCut devs s t → EngineKept e devs t
 
 -- A pool that is stopped is kept as it was.
 abbrev pub KeptByStop : Type 0

@@ -1,6 +1,6 @@
 //! Laws of what devices stand for and keep. They do nothing when they run.
 
-ghost use Rattle.st_image.specs.Laws.{StandsOnce, RackStandsOnce, NotForeign, UpStands, UpIsKept, CommittedShows, CellsWithPieces, KeptWhereSame, KeptBySync, KeptByCut, KeptByStop, OtherCommits, SameCommits, SegmentsInOrder};
+ghost use Rattle.st_image.specs.Laws.{StandsOnce, RackStandsOnce, NotForeign, UpStands, UpIsKept, CommittedShows, CellsWithPieces, KeptWhereSame, KeptBySync, KeptByCut, EngineKeptBySync, EngineKeptByCut, KeptByStop, OtherCommits, SameCommits, SegmentsInOrder};
 
 /// Devices stand for one thing at most.
 pub fn stands_once()
@@ -50,6 +50,16 @@ pub fn kept_by_sync()
 /// A pool is kept by a power cut.
 pub fn kept_by_cut()
     ensures { KeptByCut }
+{}
+
+/// A whole rack goes on keeping the engine's state by a sync.
+pub fn engine_kept_by_sync()
+    ensures { EngineKeptBySync }
+{}
+
+/// A whole rack goes on keeping the engine's state by a power cut.
+pub fn engine_kept_by_cut()
+    ensures { EngineKeptByCut }
 {}
 
 /// A pool is kept by a stop.
