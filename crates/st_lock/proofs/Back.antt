@@ -6,7 +6,6 @@ use Rattle.std.specs.Prelude.{Some, None}
 use Rattle.std.specs.Cmp.Lexicographic.{nat_list_eq_equiv}
 use Rattle.std.proofs.lemmas.List.{map-append}
 use Rattle.std.proofs.lemmas.List.Elements.{filter-append}
-use Rattle.std.proofs.lemmas.Bool.Decides.{nat_tests}
 use mathlib.Core.List.{IsPrefix}
 use Rattle.st_turn.specs.Lists.{told_by}
 use Rattle.st_wants.specs.declared.row.LockRow.{LockRow}
@@ -26,7 +25,7 @@ use Rattle.st_model.specs.Parts.{Agree, own, pool_at, started, table_of, shown_t
 use Rattle.st_model.specs.Valid.{IsValid}
 use Rattle.st_history.specs.declared.log.Event.{Event}
 use Rattle.st_history.specs.Failures.{failures_of}
-use Rattle.st_history.specs.History.{History, HistoryFrom, moves_of, replay, state_after}
+use Rattle.st_history.specs.History.{History, moves_of, replay, state_after}
 use Rattle.st_history.specs.Own.{seat_of, own_of, row_told}
 use Rattle.st_history.proofs.Held.{logs-agree}
 use Rattle.st_history.proofs.Over.{entries-go_over}
@@ -38,9 +37,9 @@ use Rattle.st_grants.proofs.Sound.{some_and}
 use Rattle.st_model.specs.declared.info.PoolInfo.{PoolInfo}
 use Rattle.st_model.specs.Look.{Text}
 use Rattle.st_model.specs.Shown.{pool_info}
-use Rattle.st_model.specs.Pieces.{ArePools, ShowPools, every, info_at}
+use Rattle.st_model.specs.Pieces.{ShowPools, every, info_at}
 use Rattle.st_book.specs.Noted.{noted_log, grant_with, IsNoted}
-use Rattle.st_book.specs.Stands.{Stands, PartStands, ComesBack}
+use Rattle.st_book.specs.Stands.{PartStands, ComesBack}
 use Rattle.st_book.specs.View.{BookView, TableView, lent_at}
 use Rattle.st_book.proofs.Released.{part_fits}
 use Rattle.st_lock.specs.Held.{Rose}

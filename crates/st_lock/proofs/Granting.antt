@@ -1,12 +1,12 @@
 -- a grant in a turn
-use Rattle.std.proofs.Common.{ℕ, ◌≡◌, ◌+◌, ◌-◌, ◌<◌, ◌≤◌, ◌^◌, ◌==◌, inl, inr, Bool, true, false, ◌||◌, List, [], ◌∷◌, ◌++◌, length, refl, ap, sym, ◌∙◌, subst, arith, length-append}
-use Rattle.std.specs.Prelude.{Result, Ok, Err, IfOk, IfErr, IfSome, IsSomeAnd, OnOk, OnErr, Option, option_map, Some, None}
+use Rattle.std.proofs.Common.{ℕ, ◌≡◌, ◌<◌, ◌^◌, ◌==◌, inl, inr, Bool, true, false, ◌||◌, List, [], ◌∷◌, ◌++◌, length, refl, ap, sym, ◌∙◌, subst, arith, length-append}
+use Rattle.std.specs.Prelude.{Result, Ok, Err, IfOk, IfErr, IfSome, IsSomeAnd, OnOk, OnErr, option_map, Some}
 use Rattle.std.proofs.lemmas.Bool.Decides.{nat_tests}
 use Rattle.std.proofs.lemmas.List.{append-nil}
 use mathlib.Core.List.{IsPrefix}
 use Rattle.st_turn.specs.Lists.{told_by, AreBy}
 use Rattle.st_wants.specs.declared.row.LockRow.{LockRow}
-use Rattle.st_wants.specs.Lock.{Lock, row_at, start, marked, granted, IsWaiting, IsLive, IsLeastBlocker}
+use Rattle.st_wants.specs.Lock.{Lock, row_at, start, marked, granted, IsLive, IsLeastBlocker}
 use Rattle.st_wants.specs.Rules.{lock_run}
 use Rattle.st_grants.proofs.Lookups.{ticket_of}
 use Rattle.st_grants.proofs.Sound.{row_marks, some_and, or_true}

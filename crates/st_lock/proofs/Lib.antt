@@ -1,3 +1,4 @@
 pub mod Turns
+pub mod LastLook
 pub mod Back
 pub mod Granting

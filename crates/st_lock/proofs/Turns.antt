@@ -1,5 +1,5 @@
 -- a seat after a turn
-use Rattle.std.proofs.Common.{ℕ, ◌≡◌, ◌==◌, arith, Bool, true, false, cond, List, [], ◌∷◌, ◌++◌, map, filter, length, drop, refl, ap, sym, ◌∙◌, subst, append_assoc}
+use Rattle.std.proofs.Common.{ℕ, ◌≡◌, ◌==◌, arith, Bool, true, false, cond, List, [], ◌∷◌, ◌++◌, length, drop, refl, ap, sym, ◌∙◌, subst, append_assoc}
 use Rattle.std.proofs.lemmas.List.Elements.{filter-append}
 use Rattle.std.specs.Prelude.{Option, option_map, Some, None, Result, Ok, Err, IfOk, IfErr, IfSome, OnErr}
 use Rattle.std.proofs.lemmas.List.{append-nil}
@@ -15,19 +15,19 @@ use Rattle.st_model.specs.declared.entry.Entry.{Entry}
 use Rattle.st_units.specs.Roomy.{Roomy}
 use Rattle.st_model.specs.declared.state.EngineState.{EngineState}
 use Rattle.st_history.specs.declared.log.Event.{Event}
-use Rattle.st_history.specs.declared.log.Event.TheVariants.{Arrive, Grant, Release}
+use Rattle.st_history.specs.declared.log.Event.TheVariants.{Arrive, Release}
 use Rattle.st_history.specs.History.{History}
 use Rattle.st_history.proofs.ValidReplay.{valid_replay}
 use Rattle.st_model.specs.Valid.{IsValid}
 use Rattle.std.proofs.lemmas.Bool.Decides.{nat_tests}
 use Rattle.std.proofs.lemmas.List.{map-append}
 use Rattle.st_wants.specs.Lock.{new_row, marked}
-use Rattle.st_history.specs.Own.{seat_of, own_of, row_past, row_from, row_told}
+use Rattle.st_history.specs.Own.{own_of, row_past, row_from, row_told}
 use Rattle.st_book.specs.declared.noted.Noted.{Noted}
-use Rattle.st_book.specs.Noted.{number_in, numbers_past, noted_log, grant_with}
+use Rattle.st_book.specs.Noted.{numbers_past, noted_log, grant_with}
 use Rattle.st_book.specs.Stands.{Stands}
 use Rattle.st_book.specs.View.{BookView}
-use Rattle.st_book.proofs.Numbers.{noted-snoc, noted-granted}
+use Rattle.st_book.proofs.Numbers.{noted-snoc}
 use Rattle.st_lock.specs.declared.desk.Opening.{Opening}
 use Rattle.st_lock.specs.declared.guard.Ticket.{Ticket}
 use Rattle.st_lock.specs.Opening.{noted_by, noted_of, events_of}

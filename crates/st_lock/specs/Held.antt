@@ -2,7 +2,6 @@
 use Rattle.std.specs.Prelude.{ℕ, ◌≡◌, ◌+◌, ◌<◌, ◌^◌, List, length, Option, option_map}
 use Rattle.std.specs.List.{sum_by}
 use Rattle.st_book.specs.View.{or_zero}
-use Rattle.st_book.specs.declared.noted.Noted.{Noted}
 use Rattle.st_book.specs.Noted.{grant_with, IsNoted}
 use Rattle.st_lock.specs.Seats.{LockSeat}
 

@@ -2,3 +2,4 @@ pub mod Opening
 pub mod Seats
 pub mod Held
 pub mod Outcomes
+pub mod Closing

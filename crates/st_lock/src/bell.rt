@@ -3,6 +3,7 @@ use std::sync::atomic::{AtomicU64, Ordering};
 use std::sync::{Condvar, Mutex, Wait};
 
 /// Rung after a release, for the seats whose tickets wait. No proof says that a wait ends.
+#[derive(Drop)]
 pub(crate) struct Bell {
     /// The seats that wait, or are about to: while there are none, nobody rings.
     waiters: CachePadded<AtomicU64>,

@@ -2,12 +2,15 @@
 #![tactic(auto)]
 
 mod bell;
+mod closing;
 mod desk;
 mod guard;
 mod lock;
 mod seat;
+mod shut;
 
 pub use desk::{Desk, Opening};
 pub use guard::{Guard, Ticket, Tried};
 pub use lock::AllOrSome;
 pub use seat::Seat;
+pub use shut::Shut;

@@ -28,8 +28,8 @@ use std::sync::Wait;
 
 /// The lock on some pools or on all.
 pub struct AllOrSome<C: Cell, T: Board> {
-    turn: Turn<Desk<C, T>>,
-    bell: Bell,
+    pub(crate) turn: Turn<Desk<C, T>>,
+    pub(crate) bell: Bell,
 }
 
 impl<C: Cell, T: Board> Model for AllOrSome<C, T> {

@@ -1,7 +1,6 @@
-use Rattle.std.proofs.Common.{◌≡◌, List, [], ◌∷◌, ◌++◌, IfOk, IfErr, OnOk, OnErr, refl, ap, sym, ◌∙◌, subst}
-use Rattle.std.specs.Prelude.{Result, Ok, Err, Some}
-use Rattle.st_book.specs.declared.noted.Noted.{Noted}
-use Rattle.st_lock.specs.Seats.{IsLater, opened, plain}
+use Rattle.std.proofs.Common.{◌≡◌, [], ◌∷◌, ◌++◌}
+use Rattle.std.specs.Prelude.{Some}
+use Rattle.st_lock.specs.Seats.{opened, plain}
 use Rattle.st_history.specs.declared.log.Event.TheVariants.{Arrive}
 use Rattle.st_lock.proofs.Turns.{arrive_goes, arrive_own, by_is, fits_still, is_open, row_arrived, ticket_ok, ticket_err, turn_later}
 use Rattle.st_wants.specs.Lock.{new_row}

@@ -1,4 +1,4 @@
-use Rattle.std.proofs.Common.{◌≡◌, sym, subst}
+use Rattle.std.proofs.Common.{sym, subst}
 use Rattle.st_lock.specs.Opening.{Fits, opening_of, state_of}
 use Rattle.st_lock.proofs.lock.AllOrSome.make.Goals as goal
 

@@ -1,10 +1,10 @@
-use Rattle.std.proofs.Common.{◌≡◌, List, [], ◌∷◌, ◌++◌, refl, ap, sym, ◌∙◌, subst}
+use Rattle.std.proofs.Common.{◌≡◌, [], ◌++◌, ap, sym, ◌∙◌}
 use Rattle.std.proofs.lemmas.List.{append-nil}
 use Rattle.st_history.specs.History.{replay}
 use Rattle.st_model.specs.Parts.{table_of, shown_table}
 use Rattle.st_lock.specs.declared.desk.Opening.{Opening}
 use Rattle.st_lock.specs.Opening.{events_of, noted_of}
-use Rattle.st_lock.specs.Seats.{LockSeat, IsLater, lock_seat, opened, state_at}
+use Rattle.st_lock.specs.Seats.{lock_seat, opened, state_at}
 use Rattle.st_lock.proofs.Turns.{fits_of, is_open, turn_later}
 use Rattle.st_lock.proofs.Granting.{if_ok, seen_here}
 use Rattle.st_lock.proofs.lock.AllOrSome.peek.Goals as goal

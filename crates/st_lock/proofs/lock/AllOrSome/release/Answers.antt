@@ -1,10 +1,9 @@
-use Rattle.std.proofs.Common.{◌≡◌, ◌+◌, ◌<◌, ◌^◌, List, [], ◌∷◌, ◌++◌, length, map, refl, ap, sym, ◌∙◌, subst, arith}
-use Rattle.std.specs.Prelude.{option_map, is_some, IfSome, IsSomeAnd}
-use Rattle.st_book.specs.declared.noted.Noted.{Noted}
-use Rattle.st_book.specs.View.{TableView, or_zero}
+use Rattle.std.proofs.Common.{[], ◌∷◌, length, map}
+use Rattle.std.specs.Prelude.{option_map}
+use Rattle.st_book.specs.View.{TableView}
 use Rattle.st_history.specs.declared.log.Event.TheVariants.{Release}
 use Rattle.st_lock.specs.Held.{faults_in}
-use Rattle.st_lock.specs.Seats.{LockSeat, IsLater, lock_seat, opened, plain, state_at}
+use Rattle.st_lock.specs.Seats.{LockSeat, lock_seat, opened, plain, state_at}
 use Rattle.st_history.specs.History.{replay}
 use Rattle.st_lock.proofs.Turns.{release_goes, fits_after, fits_of, is_open, turn_later}
 use Rattle.st_lock.proofs.Back.{Meets, meets, spares-over, table_over, fitting_here, few_here}

@@ -1,16 +1,12 @@
-use Rattle.std.proofs.Common.{ℕ, ◌≡◌, ◌+◌, ◌-◌, ◌<◌, ◌^◌, List, [], ◌∷◌, ◌++◌, length, map, false, refl, ap, sym, ◌∙◌, subst, arith}
-use Rattle.std.specs.Prelude.{min, option_map, is_some, IfSome, IsSomeAnd}
-use Rattle.st_book.specs.declared.noted.Noted.{Noted}
+use Rattle.std.proofs.Common.{◌≡◌, ◌-◌, ◌^◌, [], ◌∷◌, ◌++◌, ap, sym, ◌∙◌}
+use Rattle.std.specs.Prelude.{min}
 use Rattle.st_book.specs.declared.part.Part.{Part}
 use Rattle.st_book.specs.Noted.{grant_with}
-use Rattle.st_book.specs.Stands.{PartStands, PartShows}
-use Rattle.st_book.specs.View.{TableView, or_zero}
 use Rattle.st_history.specs.History.{replay}
-use Rattle.st_history.specs.declared.log.Event.TheVariants.{Grant}
 use Rattle.st_lock.specs.Held.{faults_in}
 use Rattle.st_lock.specs.Opening.{events_of, noted_of}
-use Rattle.st_lock.specs.Seats.{LockSeat, IsLater, lock_seat, opened, state_at}
-use Rattle.st_lock.proofs.Turns.{by_is, fits_still, fits_of, is_open, row_granted, turn_later}
+use Rattle.st_lock.specs.Seats.{LockSeat, lock_seat, opened}
+use Rattle.st_lock.proofs.Turns.{fits_still, fits_of, is_open, row_granted, turn_later}
 use Rattle.st_lock.proofs.Granting.{Waits, waits_in, grant_goes, guard_if, guard_none, guard_blocked, seen_lock, seen_state, whole_number, none_more, ok_at, row_live}
 use Rattle.st_lock.specs.declared.desk.Opening.{Opening}
 use Rattle.st_lock.proofs.lock.AllOrSome.try_grant.Goals as goal
