@@ -1,0 +1,5 @@
+pub mod Rising
+pub mod Puts
+pub mod Counting
+pub mod Table
+pub mod Keeping

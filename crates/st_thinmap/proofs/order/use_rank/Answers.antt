@@ -1,0 +1,12 @@
+use Rattle.std.proofs.Common.{ltb, ltb-true, ltb-false, rules}
+use Rattle.std.proofs.lemmas.List.Sorted.{IsPartitionPoint-from_clause, IsPartitionedBy-ltb}
+use Rattle.st_thinmap.specs.declared.uses.Use.{Use}
+use Rattle.st_thinmap.specs.inner.Uses.{place}
+use Rattle.st_thinmap.proofs.Rising.{rises-sorted, rank-is}
+use Rattle.st_thinmap.proofs.order.use_rank.Goals as goal
+
+pub returns-clause-rank : goal.returns-clause-rank
+returns-clause-rank c =
+    let parted = IsPartitionedBy-ltb place _ c.args.place (rises-sorted place 0 _ c.requires) in
+    let point = IsPartitionPoint-from_clause (λ (x : Use). ltb (place x) c.args.place) _ _ c.partition_point.ensures.partitioned parted (λ a r q k. search rules) in
+    rank-is place c.args.place _ _ (λ k d from below. ltb-true _ _ (point.0 k d from below), λ k d from below. ltb-false _ _ (point.1 k d from below)) c.partition_point.ensures.bound

@@ -1,0 +1,18 @@
+use Rattle.std.proofs.Common.{◌≡◌, ap, ◌∙◌, sym, arith, length, List, get_or, refl}
+use Rattle.st_thinmap.specs.inner.Uses.{place, count_in}
+use Rattle.st_thinmap.specs.inner.Rank.{rank}
+use Rattle.st_thinmap.specs.declared.uses.Use.{Use}
+use Rattle.std.proofs.Common.{is_ok, cond, true}
+use Rattle.std.specs.List.{insert}
+use Rattle.st_thinmap.proofs.Table.{begun}
+use Rattle.st_thinmap.proofs.uses.begin.Goals as goal
+
+pub returns-clause-table : goal.returns-clause-table
+returns-clause-table c =
+    let at = c.use_rank-at.ensures.rank ∙ ap (λ (us : List Use). rank place c.args.place us) c.deref.ensures.value in
+    (begun c.args.uses.now.items _ c.args.place c.use_rank-at.result c.requires.table at c.requires.absent c.in-Ok.ensures.items).0
+
+pub returns-clause-counts : goal.returns-clause-counts
+returns-clause-counts c =
+    let at = c.use_rank-at.ensures.rank ∙ ap (λ (us : List Use). rank place c.args.place us) c.deref.ensures.value in
+    (begun c.args.uses.now.items _ c.args.place c.use_rank-at.result c.requires.table at c.requires.absent c.in-Ok.ensures.items).1

@@ -1,0 +1,4 @@
+pub mod Order
+pub mod Planned
+pub mod Thin
+pub mod inner

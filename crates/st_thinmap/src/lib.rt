@@ -1,0 +1,13 @@
+//! The thin map of a pool: which cell each block of each filesystem is mapped to, and where the cell lies.
+#![tactic(auto)]
+
+mod map;
+mod mapping;
+mod order;
+mod plan;
+mod rows;
+mod uses;
+
+pub use map::ThinMap;
+pub use mapping::Mapping;
+pub use plan::{Fresh, Plan};

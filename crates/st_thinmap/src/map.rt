@@ -1,0 +1,141 @@
+ghost use Rattle.std.specs.Prelude.{◌≡◌, ◌≢◌, ◌+◌, ◌-◌, ◌^◌, ◌<◌, ◌≤◌, [], length, option_map, slice_get, Some, IfOk};
+ghost use Rattle.std.specs.List.{All};
+ghost use Rattle.st_limits.specs.declared.TheConstants.{MAX_MAPPINGS};
+ghost use Rattle.st_thinmap.specs.Order.{mapping_at, put};
+ghost use Rattle.st_thinmap.specs.Thin.{Fits, IsThin, fresh_mapping, used, with_fresh};
+
+use crate::mapping::Mapping;
+use crate::plan::{Fresh, Plan};
+use crate::rows::{find_row, put_row};
+use crate::uses::{Use, begin, lower_old};
+use st_units::NoMemory;
+use std::alloc::Global;
+use std::marker::Model;
+
+/// Which cell each block of each filesystem is mapped to, and where the cell lies; contracts see the mappings in order,
+/// the number of the next fresh cell, and how many mappings more take no memory. A block that has no mapping has no cell.
+#[derive(Drop)]
+pub struct ThinMap {
+    rows: Vec<Mapping>,
+    // How often each place is used.
+    uses: Vec<Use>,
+    next: u64,
+}
+
+impl Model for ThinMap {
+    ghost use Rattle.std.specs.Prelude.{◌-◌, min, vec_len};
+    ghost use Rattle.std.specs.Vec.{vec_capacity};
+    ghost use Rattle.st_thinmap.specs.Thin.{Thin, IsThin};
+    ghost use Rattle.st_thinmap.specs.inner.Tied.{Tied};
+
+    ghost Value = { Thin };
+
+    ghost view = { λ s. record { rows = s.rows.items; next = s.next; room = min (vec_capacity s.rows - vec_len s.rows) (vec_capacity s.uses - vec_len s.uses) } };
+
+    ghost invariant = { λ s. IsThin s.rows.items s.next × Tied s.uses.items s.rows.items };
+}
+
+impl ThinMap {
+    /// The map without mappings.
+    pub fn make(alloc: Global) -> ThinMap
+        ensures rows { result.rows ≡ [] }
+        ensures next { result.next ≡ 1 }
+    {
+        ThinMap {
+            rows: Vec::new(alloc),
+            uses: Vec::new(alloc),
+            next: 1,
+        }
+    }
+
+    /// The cell of a block, and where the cell lies.
+    pub fn lookup(&self, fs: u64, block: u32) -> Option<(u64, u32)>
+        ensures { result ≡ option_map (λ (m : Mapping). (m.cell, m.place)) (mapping_at fs block self.now.rows) }
+    {
+        match find_row(&self.rows, fs, block) {
+            Some(mapping) => Some((mapping.cell, mapping.place)),
+            None => None,
+        }
+    }
+
+    /// How many blocks of all filesystems are mapped.
+    pub fn mappings(&self) -> u64
+        ensures count { result ≡ length self.now.rows }
+        ensures valid { IsThin self.now.rows self.now.next }
+    {
+        self.rows.len() as u64
+    }
+
+    /// The number of the next fresh cell.
+    pub fn next_cell(&self) -> u64
+        ensures { result ≡ self.now.next }
+    {
+        self.next
+    }
+
+    /// Sets the number of the next fresh cell, which is above those of all cells.
+    pub fn set_next(&mut self, cell: u64)
+        requires { All (λ (m : Mapping). m.cell < cell) self.old.rows }
+        ensures { self.new ≡ record self.old { next = cell } }
+    {
+        self.next = cell;
+    }
+
+    /// The mapping of that place in the order, in constant time.
+    pub fn row(&self, i: usize) -> Mapping
+        requires { i < length self.now.rows }
+        ensures { slice_get self.now.rows i ≡ Some result }
+    {
+        self.rows[i]
+    }
+
+    /// The same map once more.
+    pub fn copy(&self) -> Result<ThinMap, NoMemory>
+        ensures rows { IfOk result (λ copy. copy.rows ≡ self.now.rows) }
+        ensures next { IfOk result (λ copy. copy.next ≡ self.now.next) }
+    {
+        Ok(ThinMap {
+            rows: self.rows.clone()?,
+            uses: self.uses.clone()?,
+            next: self.next,
+        })
+    }
+
+    /// Maps the blocks of a plan that this map gave to its fresh cells, with no other change of the map since. It takes no memory.
+    pub fn apply(&mut self, plan: Plan)
+        requires fits { Fits plan.fs plan.fresh self.old.rows self.old.next }
+        requires next { self.old.next < 2 ^ 63 - 1 }
+        requires room { length plan.fresh ≤ self.old.room }
+        ensures rows { self.new.rows ≡ with_fresh plan.fs plan.fresh self.old.rows }
+        ensures next { self.new.next ≡ self.old.next + length plan.fresh }
+        ensures room { self.old.room ≤ self.new.room + length plan.fresh }
+    {
+        for i in 0..plan.len() {
+            self.put_fresh(plan.fs(), plan.at(i));
+        }
+    }
+
+    /// Maps a block to a fresh cell.
+    fn put_fresh(&mut self, fs: u64, fresh: Fresh)
+        requires cell { fresh.cell ≡ self.old.next }
+        requires next { self.old.next < 2 ^ 63 }
+        requires block { fresh.block < 2 ^ 32 }
+        requires free { All (λ (m : Mapping). m.place ≢ fresh.place) self.old.rows }
+        requires few { length (put (fresh_mapping fs fresh) self.old.rows) ≤ MAX_MAPPINGS }
+        requires room { 0 < self.old.room }
+        ensures rows { self.new.rows ≡ put (fresh_mapping fs fresh) self.old.rows }
+        ensures next { self.new.next ≡ self.old.next + 1 }
+        ensures room { self.old.room ≤ self.new.room + 1 }
+    {
+        let mapping = Mapping {
+            fs,
+            block: fresh.block,
+            cell: fresh.cell,
+            place: fresh.place,
+        };
+        let old = put_row(&mut self.rows, mapping);
+        lower_old(&mut self.uses, old);
+        begin(&mut self.uses, fresh.place);
+        self.next += 1;
+    }
+}
