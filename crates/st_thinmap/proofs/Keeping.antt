@@ -79,6 +79,6 @@ IsThin-put m rows next thin cell block free few =
       blocks = All-put (λ (x : Mapping). x.block < 2 ^ 32) m rows block thin.blocks;
       cells = All-put (λ (x : Mapping). x.cell < next + 1) m rows (omega arith) (λ k d w. omega (arith, thin.cells k d w));
       paired = All-put (λ (a : Mapping). All (AgreesWith a) (put m rows)) m rows
-      (All-put (AgreesWith m) m rows (agrees-self m) (λ k d w. (both k d w).0))
-      (λ k d w. All-put (AgreesWith (get_or rows k d)) m rows ((both k d w).1) (thin.paired k d w));
+          (All-put (AgreesWith m) m rows (agrees-self m) (λ k d w. (both k d w).0))
+          (λ k d w. All-put (AgreesWith (get_or rows k d)) m rows ((both k d w).1) (thin.paired k d w));
     }

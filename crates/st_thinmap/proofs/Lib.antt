@@ -3,3 +3,5 @@ pub mod Puts
 pub mod Counting
 pub mod Table
 pub mod Keeping
+pub mod Used
+pub mod Demands

@@ -127,14 +127,14 @@ module _ {X : Type 0} (f : X → ℕ) where
   pub found-in : (low k : ℕ) (xs : List X) (o : X) → RisesFrom f low xs → item_at f k xs ≡ Some o → rank f k xs < length xs
   found-in low k [] o r e = absurd (let bad : None ≡ Some o = e in cc)
   found-in low k (x ∷ xs) o r e = elim (cases_lt (f x) k) [
-      | inl less ↦
-          let at : rank f k (x ∷ xs) ≡ suc (rank f k xs) = cond-true (ltb (f x) k) (suc (rank f k xs)) 0 (lt-ltb (f x) k less) in
-          let rest : item_at f k xs ≡ Some o = sym (cond-false (eqb (f x) k) (Some x) (item_at f k xs) (ne_eqb (f x) k (λ q. absurd (omega arith)))) ∙ e in
-          omega (arith, at, found-in (f x + 1) k xs o r.1 rest)
-      | inr le ↦
-          let at : rank f k (x ∷ xs) ≡ 0 = cond-false (ltb (f x) k) (suc (rank f k xs)) 0 (le-ltb (f x) k le) in
-          omega (arith, at)
-    ]
+    | inl less ↦
+        let at : rank f k (x ∷ xs) ≡ suc (rank f k xs) = cond-true (ltb (f x) k) (suc (rank f k xs)) 0 (lt-ltb (f x) k less) in
+        let rest : item_at f k xs ≡ Some o = sym (cond-false (eqb (f x) k) (Some x) (item_at f k xs) (ne_eqb (f x) k (λ q. absurd (omega arith)))) ∙ e in
+        omega (arith, at, found-in (f x + 1) k xs o r.1 rest)
+    | inr le ↦
+        let at : rank f k (x ∷ xs) ≡ 0 = cond-false (ltb (f x) k) (suc (rank f k xs)) 0 (le-ltb (f x) k le) in
+        omega (arith, at)
+  ]
 
   -- the same, where the rank is known by another name
   pub found-at : (k at : ℕ) (xs : List X) (d : X) → RisesFrom f 0 xs → at ≡ rank f k xs → at < length xs → f (get_or xs at d) ≡ k → item_at f k xs ≡ Some (get_or xs at d)

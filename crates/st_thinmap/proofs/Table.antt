@@ -1,13 +1,13 @@
 -- the table of uses after each call: it is a table still, and one count has changed by one
-use Rattle.std.proofs.Common.{◌≡◌, ℕ, zero, suc, ◌+◌, ◌-◌, ◌<◌, ◌≤◌, Bool, true, false, List, [], ◌∷◌, ◌++◌, length, get_or, take, drop, set, cond, eqb, inl, inr, refl, sym, ◌∙◌, ap, subst, arith}
+use Rattle.std.proofs.Common.{◌≡◌, ℕ, zero, suc, ◌+◌, ◌-◌, ◌<◌, ◌≤◌, Bool, true, false, List, [], ◌∷◌, ◌++◌, length, get_or, take, drop, set, cond, eqb, ltb, inl, inr, refl, sym, ◌∙◌, ap, subst, arith}
 use Rattle.std.specs.List.{All, insert, remove}
-use Rattle.std.proofs.lemmas.Bool.{cases_eq, eq-eqb, ne_eqb, cond-true, cond-false}
-use Rattle.std.proofs.lemmas.List.Elements.{All-cons, All-head, All-append, All-set, All-take, All-drop}
+use Rattle.std.proofs.lemmas.Bool.{cases_eq, cases_lt, eq-eqb, ne_eqb, cond-true, cond-false, lt-ltb, le-ltb}
+use Rattle.std.proofs.lemmas.List.Elements.{All-cons, All-head, All-tail, All-append, All-set, All-take, All-drop}
 use Rattle.st_thinmap.specs.declared.uses.Use.{Use}
 use Rattle.st_thinmap.specs.Order.{RisesFrom}
 use Rattle.st_thinmap.specs.inner.Rank.{rank}
 use Rattle.st_thinmap.specs.inner.Uses.{place, count_in, one_if, IsTable, IsFreeAt}
-use Rattle.st_thinmap.proofs.Rising.{rises-at, rises-between, rank-within, rank-is, rank-behind, at-rank}
+use Rattle.st_thinmap.proofs.Rising.{rises-at, rises-between, rank-within, rank-is, rank-behind, at-rank, rank-none}
 use Rattle.st_thinmap.proofs.Counting.{Edited, set-edits, insert-edits, remove-edits, stands, count-at, count-none}
 
 IsUsed : Use → Type 0
@@ -120,3 +120,25 @@ high_down uses p taken m d e t within is from inside other =
 pub free_there : (uses : List Use) (p at : ℕ) (d : Use) → IsTable uses → rank place p uses ≡ at → (at < length uses → p < (get_or uses at d).place) → count_in uses p ≡ 0
 free_there uses p at d t is h =
     count-none 0 uses p d t.0 (λ w s. absurd (omega (arith, h (omega arith), ap (λ (i : ℕ). (get_or uses i d).place) is)))
+
+-- a place that isn't in use changes no rank
+pub rank_over : (low : ℕ) (uses : List Use) (p : ℕ) → RisesFrom place low uses → All (λ (u : Use). 0 < u.count) uses → count_in uses p ≡ 0 → rank place (p + 1) uses ≡ rank place p uses
+rank_over low [] p r some none = refl
+rank_over low (u ∷ uses) p r some none = elim (cases_lt u.place p) [
+    | inl less ↦
+        let rest : count_in uses p ≡ 0 = sym (cond-false (eqb u.place p) u.count (count_in uses p) (ne_eqb u.place p (λ e. absurd (omega arith)))) ∙ none in
+        cond-true (ltb u.place (p + 1)) (suc (rank place (p + 1) uses)) 0 (lt-ltb u.place (p + 1) (omega arith))
+        ∙ ap suc (rank_over (u.place + 1) uses p r.1 (All-tail (λ (v : Use). 0 < v.count) u uses some) rest)
+        ∙ sym (cond-true (ltb u.place p) (suc (rank place p uses)) 0 (lt-ltb u.place p less))
+    | inr le ↦
+        let differs : u.place ≡ p → ⊥ =
+        λ e. absurd (omega (arith, none, cond-true (eqb u.place p) u.count (count_in uses p) (eq-eqb u.place p e), All-head (λ (v : Use). 0 < v.count) u uses some)) in
+        cond-false (ltb u.place (p + 1)) (suc (rank place (p + 1) uses)) 0 (le-ltb u.place (p + 1) (omega (arith, differs)))
+        ∙ sym (cond-false (ltb u.place p) (suc (rank place p uses)) 0 (le-ltb u.place p le))
+  ]
+
+pub from_start : (uses : List Use) → IsTable uses → IsFreeAt uses 0 0
+from_start uses t = rank-none place 0 0 uses t.0 (omega arith)
+
+pub from_behind : (uses : List Use) (g : ℕ) → IsTable uses → count_in uses g ≡ 0 → IsFreeAt uses g (g - 0) → IsFreeAt uses (g + 1) (g + 1 - 1)
+from_behind uses g t none at = omega (arith, rank_over 0 uses g t.0 t.1 none, at)

@@ -1,15 +1,16 @@
-ghost use Rattle.std.specs.Prelude.{◌≡◌, ◌≢◌, ◌+◌, ◌-◌, ◌^◌, ◌<◌, ◌≤◌, [], length, option_map, slice_get, Some, IfOk};
+ghost use Rattle.std.specs.Prelude.{◌≡◌, ◌≢◌, ◌+◌, ◌-◌, ◌^◌, ◌<◌, ◌≤◌, [], length, option_map, slice_get, count_by, Some, IfOk, OnOk};
 ghost use Rattle.std.specs.List.{All};
 ghost use Rattle.st_limits.specs.declared.TheConstants.{MAX_MAPPINGS};
 ghost use Rattle.st_thinmap.specs.Order.{mapping_at, put};
+ghost use Rattle.st_thinmap.specs.inner.Tied.{lies_at};
 ghost use Rattle.st_thinmap.specs.Thin.{Fits, IsThin, fresh_mapping, used, with_fresh};
 
 use crate::mapping::Mapping;
 use crate::plan::{Fresh, Plan};
 use crate::rows::{find_row, put_row};
-use crate::uses::{Use, begin, lower_old};
+use crate::uses::{Use, begin, count_of, gap, lower_old};
 use st_units::NoMemory;
-use std::alloc::Global;
+use std::alloc::{AllocError, Global};
 use std::marker::Model;
 
 /// Which cell each block of each filesystem is mapped to, and where the cell lies; contracts see the mappings in order,
@@ -25,6 +26,7 @@ pub struct ThinMap {
 impl Model for ThinMap {
     ghost use Rattle.std.specs.Prelude.{◌-◌, min, vec_len};
     ghost use Rattle.std.specs.Vec.{vec_capacity};
+    ghost use Rattle.st_thinmap.specs.inner.Tied.{lies_at};
     ghost use Rattle.st_thinmap.specs.Thin.{Thin, IsThin};
     ghost use Rattle.st_thinmap.specs.inner.Tied.{Tied};
 
@@ -99,6 +101,55 @@ impl ThinMap {
             uses: self.uses.clone()?,
             next: self.next,
         })
+    }
+
+    /// How many cells there are.
+    pub fn used(&self) -> u64
+        ensures count { result ≡ used self.now.rows }
+        ensures few { result ≤ length self.now.rows }
+        ensures valid { IsThin self.now.rows self.now.next }
+    {
+        self.uses.len() as u64
+    }
+
+    /// The mapping of a block.
+    pub fn mapping(&self, fs: u64, block: u32) -> Option<Mapping>
+        ensures mapping { result ≡ mapping_at fs block self.now.rows }
+        ensures valid { IsThin self.now.rows self.now.next }
+    {
+        find_row(&self.rows, fs, block)
+    }
+
+    /// How many mappings have the place.
+    pub fn uses_of(&self, place: u32) -> u32
+        ensures { result ≡ count_by (lies_at place) self.now.rows }
+    {
+        count_of(&self.uses, place)
+    }
+
+    /// Makes room for so many mappings to fresh cells.
+    pub fn reserve(&mut self, n: usize) -> Result<(), AllocError>
+        ensures rows { self.new.rows ≡ self.old.rows }
+        ensures next { self.new.next ≡ self.old.next }
+        ensures room { OnOk result (n ≤ self.new.room) }
+        ensures kept { self.old.room ≤ self.new.room }
+    {
+        self.rows.reserve(n)?;
+        self.uses.reserve(n)?;
+        Ok(())
+    }
+
+    /// The two least places that nothing has, in time in the logarithm of the number of cells.
+    pub fn free_places(&self) -> (u32, u32)
+        ensures first { All (λ (m : Mapping). m.place ≢ result.0) self.now.rows }
+        ensures second { All (λ (m : Mapping). m.place ≢ result.1) self.now.rows }
+        ensures rising { result.0 < result.1 }
+        ensures low { result.0 ≤ used self.now.rows }
+        ensures high { result.1 ≤ used self.now.rows + 1 }
+    {
+        let first = gap(&self.uses, 0, 0);
+        let second = gap(&self.uses, first + 1, 1);
+        (first as u32, second as u32)
     }
 
     /// Maps the blocks of a plan that this map gave to its fresh cells, with no other change of the map since. It takes no memory.

@@ -12,10 +12,10 @@ returns-then-key_of c =
 
 pub returns-else-at-rows : goal.returns-else-at-rows
 returns-else-at-rows c = elim c.else-at-rows.branch [
-    | else-at-rows-via-then-at-rows+else-key_of w ↦
-        missed-at key (key_of c.args.fs c.args.block) c.row_rank-at.result c.args.rows.now _ c.requires c.row_rank-at.ensures.rank
-        (λ h e. w.if-key_of.false (w.key_of.ensures ∙ e ∙ sym w.key_of-then-at-rows.ensures))
-    | else-at-rows-via-else-at-rows w ↦
-        missed-at key (key_of c.args.fs c.args.block) c.row_rank-at.result c.args.rows.now (record { fs = 0; block = 0; cell = 0; place = 0 }) c.requires c.row_rank-at.ensures.rank
-        (λ h e. absurd (omega (arith, w.if-at-rows.false)))
-  ]
+  | else-at-rows-via-then-at-rows+else-key_of w ↦
+      missed-at key (key_of c.args.fs c.args.block) c.row_rank-at.result c.args.rows.now _ c.requires c.row_rank-at.ensures.rank
+      (λ h e. w.if-key_of.false (w.key_of.ensures ∙ e ∙ sym w.key_of-then-at-rows.ensures))
+  | else-at-rows-via-else-at-rows w ↦
+      missed-at key (key_of c.args.fs c.args.block) c.row_rank-at.result c.args.rows.now (record { fs = 0; block = 0; cell = 0; place = 0 }) c.requires c.row_rank-at.ensures.rank
+      (λ h e. absurd (omega (arith, w.if-at-rows.false)))
+]

@@ -24,7 +24,8 @@ invariant_of-self c =
     let m : Mapping = record { fs = c.args.fs; block = c.args.fresh.block; cell = c.args.fresh.cell; place = c.args.fresh.place } in
     let rows_is : c.args.self.now.rows ≡ s.rows.items = ap (λ (t : Thin). t.rows) (sym c.self.view_is) in
     let free = subst (λ (xs : List Mapping). Free xs c.args.fresh.place) rows_is c.requires.free in
-    let few = subst (λ (xs : List Mapping). IsFew m xs) rows_is c.requires.few in
-    (subst (λ (xs : List Mapping). IsThin xs (s.next + 1)) (sym c.put_row-old.ensures.rows)
-        (IsThin-put m s.rows.items s.next c.self.invariant.0 (c.requires.cell ∙ ap (λ (t : Thin). t.next) (sym c.self.view_is)) c.requires.block free few),
-     Tied-put s.uses.items c.lower_old.new.uses.items c.begin.new.uses.items s.rows.items c.put_row-old.new.rows.items m c.put_row-old.result c.self.invariant.1 c.self.invariant.0.order c.put_row-old.ensures.old c.put_row-old.ensures.rows c.lower_old.ensures.counts c.begin.ensures.table c.begin.ensures.counts)
+    let few = subst (λ (xs : List Mapping). IsFew m xs) rows_is c.requires.few in (
+      subst (λ (xs : List Mapping). IsThin xs (s.next + 1)) (sym c.put_row-old.ensures.rows)
+          (IsThin-put m s.rows.items s.next c.self.invariant.0 (c.requires.cell ∙ ap (λ (t : Thin). t.next) (sym c.self.view_is)) c.requires.block free few),
+      Tied-put s.uses.items c.lower_old.new.uses.items c.begin.new.uses.items s.rows.items c.put_row-old.new.rows.items m c.put_row-old.result c.self.invariant.1 c.self.invariant.0.order c.put_row-old.ensures.old c.put_row-old.ensures.rows c.lower_old.ensures.counts c.begin.ensures.table c.begin.ensures.counts,
+    )
