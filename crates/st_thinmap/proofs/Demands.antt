@@ -10,8 +10,7 @@ use Rattle.st_limits.specs.Sums as sums
 use Rattle.st_thinmap.specs.declared.mapping.Mapping.{Mapping}
 use Rattle.st_thinmap.specs.Order.{item_at, key, key_of, mapping_at}
 use Rattle.st_thinmap.specs.Thin.{IsThin, AgreesWith, cells_of, map_of, of_fs}
-use Rattle.st_thinmap.specs.inner.Tied.{lies_at}
-use Rattle.st_thinmap.proofs.Puts.{one}
+use Rattle.st_thinmap.specs.inner.Tied.{lies_at, one}
 
 -- what a look-up found is one of the rows
 pub found-all : (P : Mapping → Type 0) (k : ℕ) (rows : List Mapping) (o : Mapping) → All P rows → item_at key k rows ≡ Some o → P o

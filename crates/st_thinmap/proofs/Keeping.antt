@@ -10,8 +10,8 @@ use Rattle.st_thinmap.specs.declared.uses.Use.{Use}
 use Rattle.st_thinmap.specs.Order.{RisesFrom, item_at, key, put}
 use Rattle.st_thinmap.specs.Thin.{IsThin, AgreesWith}
 use Rattle.st_thinmap.specs.inner.Uses.{count_in, one_if, IsTable}
-use Rattle.st_thinmap.specs.inner.Tied.{Tied, lies_at, one_of}
-use Rattle.st_thinmap.proofs.Puts.{rises-put, All-put, count-put, one}
+use Rattle.st_thinmap.specs.inner.Tied.{Tied, lies_at, one, one_of}
+use Rattle.st_thinmap.proofs.Puts.{rises-put, All-put, count-put}
 use Rattle.st_thinmap.proofs.Table.{one_here, one_there}
 
 -- a place that no mapping has

@@ -5,3 +5,4 @@ pub mod Table
 pub mod Keeping
 pub mod Used
 pub mod Demands
+pub mod Plans

@@ -1,13 +1,14 @@
 -- one more item among items in order
 use Rattle.std.proofs.Common.{◌≡◌, ◌≢◌, ℕ, zero, suc, ◌+◌, ◌-◌, ◌<◌, ◌≤◌, Bool, true, false, List, [], ◌∷◌, ◌++◌, length, get_or, take, drop, set, cond, eqb, ltb, Option, Some, None, ◌⊎◌, inl, inr, refl, sym, ◌∙◌, ap, subst, arith}
 use Rattle.std.specs.List.{All, insert, count_by}
+use Rattle.std.specs.Option.{is_none}
 use Rattle.std.proofs.lemmas.Bool.{cases_eq, cases_lt, eq-eqb, ne_eqb, cond-true, cond-false, lt-ltb, le-ltb}
 use Rattle.std.proofs.lemmas.List.Elements.{All-nil, All-cons, All-head, All-tail}
 use Rattle.std.proofs.lemmas.List.Sums.{sum_by-cons}
 use Rattle.st_thinmap.specs.declared.mapping.Mapping.{Mapping}
 use Rattle.st_thinmap.specs.Order.{RisesFrom, item_at, key, put}
 use Rattle.st_thinmap.specs.inner.Rank.{rank}
-use Rattle.st_thinmap.specs.inner.Tied.{one_of}
+use Rattle.st_thinmap.specs.inner.Tied.{one, one_of}
 use Rattle.st_thinmap.proofs.Rising.{rises-lower, none-below}
 
 -- where it goes
@@ -54,9 +55,6 @@ All-put P m (x ∷ rows) h a = elim (put_cases m x rows) [
     | inr s ↦ subst (All P) (sym s.is) (All-cons P m (x ∷ rows) h a)
   ]
 ]
-
-abbrev pub one : Bool → ℕ
-one b = cond b 1 0
 
 -- how many pass a test: the one that goes no more, and the new one
 pub count-put : (p : Mapping → Bool) (m : Mapping) (low : ℕ) (rows : List Mapping) → RisesFrom key low rows
@@ -130,4 +128,34 @@ length-put m [] = omega arith
 length-put m (x ∷ rows) = elim (put_cases m x rows) [
   | inl c ↦ omega (arith, ap length c.is, length-put m rows)
   | inr c ↦ elim c [ inl s ↦ omega (arith, ap length s.is) | inr s ↦ omega (arith, ap length s.is) ]
+]
+
+pub length-put-is : (m : Mapping) (low : ℕ) (rows : List Mapping) → RisesFrom key low rows → length (put m rows) ≡ length rows + one (is_none (item_at key (key m) rows))
+length-put-is m low [] r = refl
+length-put-is m low (x ∷ rows) r = elim (put_cases m x rows) [
+  | inl c ↦
+      let look : item_at key (key m) (x ∷ rows) ≡ item_at key (key m) rows =
+      cond-false (eqb (key x) (key m)) (Some x) (item_at key (key m) rows) (ne_eqb (key x) (key m) (λ q. absurd (omega (arith, c.less)))) in
+      omega (arith, ap length c.is, length-put-is m (key x + 1) rows r.1, ap (λ (o : Option Mapping). one (is_none o)) look)
+  | inr c ↦ elim c [
+    | inl s ↦
+        let look : item_at key (key m) (x ∷ rows) ≡ Some x = cond-true (eqb (key x) (key m)) (Some x) (item_at key (key m) rows) (eq-eqb (key x) (key m) s.same) in
+        omega (arith, ap length s.is, ap (λ (o : Option Mapping). one (is_none o)) look)
+    | inr s ↦
+        let look : item_at key (key m) (x ∷ rows) ≡ None = none-below key (key x) (key m) (x ∷ rows) (omega arith, r.1) s.more in
+        omega (arith, ap length s.is, ap (λ (o : Option Mapping). one (is_none o)) look)
+  ]
+]
+
+-- other numbers are found as before
+pub look-put : (m : Mapping) (k : ℕ) (rows : List Mapping) → (key m ≡ k → ⊥) → item_at key k (put m rows) ≡ item_at key k rows
+look-put m k [] ne = cond-false (eqb (key m) k) (Some m) None (ne_eqb (key m) k ne)
+look-put m k (x ∷ rows) ne = elim (put_cases m x rows) [
+  | inl c ↦ ap (item_at key k) c.is ∙ ap (λ (o : Option Mapping). cond (eqb (key x) k) (Some x) o) (look-put m k rows ne)
+  | inr c ↦ elim c [
+    | inl s ↦
+        ap (item_at key k) s.is ∙ cond-false (eqb (key m) k) (Some m) (item_at key k rows) (ne_eqb (key m) k ne)
+        ∙ sym (cond-false (eqb (key x) k) (Some x) (item_at key k rows) (ne_eqb (key x) k (λ e. ne (sym s.same ∙ e))))
+    | inr s ↦ ap (item_at key k) s.is ∙ cond-false (eqb (key m) k) (Some m) (item_at key k (x ∷ rows)) (ne_eqb (key m) k ne)
+  ]
 ]

@@ -125,17 +125,17 @@ free_there uses p at d t is h =
 pub rank_over : (low : ℕ) (uses : List Use) (p : ℕ) → RisesFrom place low uses → All (λ (u : Use). 0 < u.count) uses → count_in uses p ≡ 0 → rank place (p + 1) uses ≡ rank place p uses
 rank_over low [] p r some none = refl
 rank_over low (u ∷ uses) p r some none = elim (cases_lt u.place p) [
-    | inl less ↦
-        let rest : count_in uses p ≡ 0 = sym (cond-false (eqb u.place p) u.count (count_in uses p) (ne_eqb u.place p (λ e. absurd (omega arith)))) ∙ none in
-        cond-true (ltb u.place (p + 1)) (suc (rank place (p + 1) uses)) 0 (lt-ltb u.place (p + 1) (omega arith))
-        ∙ ap suc (rank_over (u.place + 1) uses p r.1 (All-tail (λ (v : Use). 0 < v.count) u uses some) rest)
-        ∙ sym (cond-true (ltb u.place p) (suc (rank place p uses)) 0 (lt-ltb u.place p less))
-    | inr le ↦
-        let differs : u.place ≡ p → ⊥ =
-        λ e. absurd (omega (arith, none, cond-true (eqb u.place p) u.count (count_in uses p) (eq-eqb u.place p e), All-head (λ (v : Use). 0 < v.count) u uses some)) in
-        cond-false (ltb u.place (p + 1)) (suc (rank place (p + 1) uses)) 0 (le-ltb u.place (p + 1) (omega (arith, differs)))
-        ∙ sym (cond-false (ltb u.place p) (suc (rank place p uses)) 0 (le-ltb u.place p le))
-  ]
+  | inl less ↦
+      let rest : count_in uses p ≡ 0 = sym (cond-false (eqb u.place p) u.count (count_in uses p) (ne_eqb u.place p (λ e. absurd (omega arith)))) ∙ none in
+      cond-true (ltb u.place (p + 1)) (suc (rank place (p + 1) uses)) 0 (lt-ltb u.place (p + 1) (omega arith))
+      ∙ ap suc (rank_over (u.place + 1) uses p r.1 (All-tail (λ (v : Use). 0 < v.count) u uses some) rest)
+      ∙ sym (cond-true (ltb u.place p) (suc (rank place p uses)) 0 (lt-ltb u.place p less))
+  | inr le ↦
+      let differs : u.place ≡ p → ⊥ =
+      λ e. absurd (omega (arith, none, cond-true (eqb u.place p) u.count (count_in uses p) (eq-eqb u.place p e), All-head (λ (v : Use). 0 < v.count) u uses some)) in
+      cond-false (ltb u.place (p + 1)) (suc (rank place (p + 1) uses)) 0 (le-ltb u.place (p + 1) (omega (arith, differs)))
+      ∙ sym (cond-false (ltb u.place p) (suc (rank place p uses)) 0 (le-ltb u.place p le))
+]
 
 pub from_start : (uses : List Use) → IsTable uses → IsFreeAt uses 0 0
 from_start uses t = rank-none place 0 0 uses t.0 (omega arith)

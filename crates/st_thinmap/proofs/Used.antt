@@ -14,8 +14,7 @@ use Rattle.st_thinmap.specs.declared.uses.Use.{Use}
 use Rattle.st_thinmap.specs.Order.{RisesFrom}
 use Rattle.st_thinmap.specs.Thin.{IsThin, AgreesWith, cells_of, used}
 use Rattle.st_thinmap.specs.inner.Uses.{place, count_in, IsTable}
-use Rattle.st_thinmap.specs.inner.Tied.{Tied, lies_at}
-use Rattle.st_thinmap.proofs.Puts.{one}
+use Rattle.st_thinmap.specs.inner.Tied.{Tied, lies_at, one}
 use Rattle.st_thinmap.proofs.Counting.{count-below}
 
 eqb-symm : (x y : ℕ) → eqb x y ≡ eqb y x

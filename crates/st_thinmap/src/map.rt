@@ -146,6 +146,7 @@ impl ThinMap {
         ensures rising { result.0 < result.1 }
         ensures low { result.0 ≤ used self.now.rows }
         ensures high { result.1 ≤ used self.now.rows + 1 }
+        ensures valid { IsThin self.now.rows self.now.next }
     {
         let first = gap(&self.uses, 0, 0);
         let second = gap(&self.uses, first + 1, 1);

@@ -1,4 +1,4 @@
-ghost use Rattle.std.specs.Prelude.{◌≡◌, ◌<◌, length, slice_get, Some};
+ghost use Rattle.std.specs.Prelude.{◌≡◌, ◌<◌, ◌≤◌, length, slice_get, take, [], Some};
 
 use std::marker::Model;
 
@@ -32,6 +32,26 @@ impl Model for Plan {
 }
 
 impl Plan {
+    /// The plan with the first `count` of these cells.
+    pub fn of(fs: u64, cells: [Fresh; 2], count: usize) -> Plan
+        requires { count ≤ 2 }
+        ensures { result ≡ record { fs = fs; fresh = take count cells } }
+    {
+        Plan { fs, cells, count }
+    }
+
+    /// The plan without fresh cells.
+    pub fn none(fs: u64) -> Plan
+        ensures { result ≡ record { fs = fs; fresh = [] } }
+    {
+        let blank = Fresh {
+            block: 0,
+            cell: 0,
+            place: 0,
+        };
+        Plan::of(fs, [blank, blank], 0)
+    }
+
     /// The serial of the filesystem that is written.
     pub fn fs(&self) -> u64
         ensures { result ≡ self.now.fs }

@@ -17,3 +17,7 @@ Tied uses rows = IsTable uses × ((p : ℕ) → count_in uses p ≡ count_by (li
 abbrev pub one_of : (Mapping → Bool) → Option Mapping → ℕ
 one_of p None = 0
 one_of p (Some m) = if p m then 1 else 0
+
+-- 1 where it is so
+abbrev pub one : Bool → ℕ
+one b = if b then 1 else 0
