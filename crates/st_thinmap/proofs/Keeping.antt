@@ -4,14 +4,15 @@ use Rattle.std.specs.List.{All, count_by}
 use Rattle.std.specs.Option.{MatchOption}
 use Rattle.std.proofs.lemmas.Bool.{cases_eq, eq-eqb, ne_eqb, cond-true, cond-false}
 use Rattle.std.proofs.lemmas.List.Elements.{All-nil, All-cons, All-head, All-tail, All-weaker}
-use Rattle.std.proofs.lemmas.List.Sums.{sum_by-cons}
+use Rattle.std.proofs.lemmas.List.Sums.{sum_by-cons, count_by-le-length}
 use Rattle.st_thinmap.specs.declared.mapping.Mapping.{Mapping}
 use Rattle.st_thinmap.specs.declared.uses.Use.{Use}
 use Rattle.st_thinmap.specs.Order.{RisesFrom, item_at, key, put}
 use Rattle.st_thinmap.specs.Thin.{IsThin, AgreesWith}
 use Rattle.st_thinmap.specs.inner.Uses.{count_in, one_if, IsTable}
 use Rattle.st_thinmap.specs.inner.Tied.{Tied, lies_at, one, one_of}
-use Rattle.st_thinmap.proofs.Puts.{rises-put, All-put, count-put}
+use Rattle.st_thinmap.proofs.Used.{eqb-symm}
+use Rattle.st_thinmap.proofs.Puts.{length-put, rises-put, All-put, count-put}
 use Rattle.st_thinmap.proofs.Table.{one_here, one_there}
 
 -- a place that no mapping has
@@ -82,3 +83,27 @@ IsThin-put m rows next thin cell block free few =
           (All-put (AgreesWith m) m rows (agrees-self m) (λ k d w. (both k d w).0))
           (λ k d w. All-put (AgreesWith (get_or rows k d)) m rows ((both k d w).1) (thin.paired k d w));
     }
+
+agrees-symm : (a b : Mapping) → AgreesWith a b → AgreesWith b a
+agrees-symm a b h = eqb-symm b.cell a.cell ∙ h ∙ eqb-symm a.place b.place
+
+pub IsThin-load : (m : Mapping) (rows : List Mapping) (next : ℕ) → IsThin rows next → m.cell < next → m.block < 2 ^ 32 → All (AgreesWith m) rows → length rows < 32768 → IsThin (put m rows) next
+IsThin-load m rows next thin cell block paired few =
+    record {
+      order = rises-put m 0 rows (omega arith) thin.order;
+      few = omega (arith, length-put m rows);
+      blocks = All-put (λ (x : Mapping). x.block < 2 ^ 32) m rows block thin.blocks;
+      cells = All-put (λ (x : Mapping). x.cell < next) m rows cell thin.cells;
+      paired = All-put (λ (a : Mapping). All (AgreesWith a) (put m rows)) m rows
+          (All-put (AgreesWith m) m rows (agrees-self m) paired)
+          (λ k d w. All-put (AgreesWith (get_or rows k d)) m rows (agrees-symm m (get_or rows k d) (paired k d w)) (thin.paired k d w));
+    }
+
+-- a count of places is below the numbers of its type
+pub count_small : (uses : List Use) (rows : List Mapping) (p : ℕ) → Tied uses rows → length rows ≤ 65536 → count_in uses p < 2 ^ 32 - 1
+count_small uses rows p t few = omega (arith, t.1 p, count_by-le-length (lies_at p) rows)
+
+pub Tied-load : (uses new : List Use) (rows now : List Mapping) (m : Mapping) → Tied uses rows → RisesFrom key 0 rows → item_at key (key m) rows ≡ None → now ≡ put m rows
+    → IsTable new → ((q : ℕ) → count_in new q ≡ count_in uses q + one_if m.place q) → Tied new now
+Tied-load uses new rows now m t order none now_is table more =
+    Tied-put uses uses new rows now m None t order (sym none) now_is (λ q. omega arith) table more

@@ -6,3 +6,4 @@ pub mod Keeping
 pub mod Used
 pub mod Demands
 pub mod Plans
+pub mod Runs

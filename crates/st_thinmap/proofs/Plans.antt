@@ -27,9 +27,13 @@ two_fits fs next x y rows thin cell next_cell order block apart free next_free f
     let long : length rows2 ≡ length rows + one (is_none (mapping_at fs x.block rows)) = length-put-is m 0 rows thin.order in
     let look : item_at key (key n) rows2 ≡ mapping_at fs y.block rows = look-put m (key n) rows (λ e. absurd (omega arith)) in
     let longer : length (put n rows2) ≡ length rows2 + one (is_none (item_at key (key n) rows2)) = length-put-is n 0 rows2 (rises-put m 0 rows (omega arith) thin.order) in
-    let same : one (is_none (item_at key (key n) rows2)) ≡ one (is_none (mapping_at fs y.block rows)) = ap (λ (o : Option Mapping). one (is_none o)) look in
-    (cell, omega arith, free, omega arith,
-     (next_cell, block, All-put (λ (a : Mapping). a.place ≢ y.place) m rows (λ e. absurd (omega arith)) next_free, omega arith, tt))
+    let same : one (is_none (item_at key (key n) rows2)) ≡ one (is_none (mapping_at fs y.block rows)) = ap (λ (o : Option Mapping). one (is_none o)) look in (
+      cell,
+      omega arith,
+      free,
+      omega arith,
+      (next_cell, block, All-put (λ (a : Mapping). a.place ≢ y.place) m rows (λ e. absurd (omega arith)) next_free, omega arith, tt),
+    )
 
 -- what a write adds, block by block
 pub more_two : (fs first last next : ℕ) (rows : List Mapping) → IsThin rows next → first < last → last < 2 ^ 32 → more fs first last rows ≡ one (is_none (mapping_at fs first rows)) + one (is_none (mapping_at fs last rows))

@@ -17,7 +17,7 @@ use Rattle.st_thinmap.specs.inner.Uses.{place, count_in, IsTable}
 use Rattle.st_thinmap.specs.inner.Tied.{Tied, lies_at, one}
 use Rattle.st_thinmap.proofs.Counting.{count-below}
 
-eqb-symm : (x y : ℕ) → eqb x y ≡ eqb y x
+pub eqb-symm : (x y : ℕ) → eqb x y ≡ eqb y x
 eqb-symm x y = elim (cases_eq x y) [
   | inl e ↦ eq-eqb x y e ∙ sym (eq-eqb y x (sym e))
   | inr ne ↦ ne_eqb x y ne ∙ sym (ne_eqb y x (λ e. ne (sym e)))

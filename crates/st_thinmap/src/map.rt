@@ -1,14 +1,15 @@
-ghost use Rattle.std.specs.Prelude.{◌≡◌, ◌≢◌, ◌+◌, ◌-◌, ◌^◌, ◌<◌, ◌≤◌, [], length, option_map, slice_get, count_by, Some, IfOk, OnOk};
+ghost use Rattle.std.specs.Prelude.{◌≡◌, ◌≢◌, ◌+◌, ◌-◌, ◌^◌, ◌<◌, ◌≤◌, [], length, option_map, slice_get, count_by, Some, None, IfOk, OnErr, OnOk};
 ghost use Rattle.std.specs.List.{All};
 ghost use Rattle.st_limits.specs.declared.TheConstants.{MAX_MAPPINGS};
 ghost use Rattle.st_thinmap.specs.Order.{mapping_at, put};
 ghost use Rattle.st_thinmap.specs.inner.Tied.{lies_at};
-ghost use Rattle.st_thinmap.specs.Thin.{Fits, IsThin, fresh_mapping, used, with_fresh};
+ghost use Rattle.st_thinmap.specs.Thin.{AgreesWith, Fits, IsThin, of_fs, fresh_mapping, used, with_fresh};
 
 use crate::mapping::Mapping;
+use crate::order::run_of;
 use crate::plan::{Fresh, Plan};
 use crate::rows::{find_row, put_row};
-use crate::uses::{Use, begin, count_of, gap, lower_old};
+use crate::uses::{Use, add_use, begin, count_of, gap, lower_old};
 use st_units::NoMemory;
 use std::alloc::{AllocError, Global};
 use std::marker::Model;
@@ -151,6 +152,45 @@ impl ThinMap {
         let first = gap(&self.uses, 0, 0);
         let second = gap(&self.uses, first + 1, 1);
         (first as u32, second as u32)
+    }
+
+    /// How many blocks of the filesystem are mapped.
+    pub fn mapped(&self, fs: u64) -> u64
+        ensures { result ≡ length (of_fs fs self.now.rows) }
+    {
+        let (start, end) = run_of(&self.rows, fs);
+        (end - start) as u64
+    }
+
+    /// Adds a mapping of a record. Its cell is one of the map just where its place is the cell's.
+    pub fn load(&mut self, mapping: Mapping) -> Result<(), NoMemory>
+        requires few { length self.old.rows < MAX_MAPPINGS }
+        requires block { mapping.block < 2 ^ 32 }
+        requires unmapped { mapping_at mapping.fs mapping.block self.old.rows ≡ None }
+        requires cell { mapping.cell < self.old.next }
+        requires paired { All (AgreesWith mapping) self.old.rows }
+        ensures ok { OnOk result (self.new.rows ≡ put mapping self.old.rows) }
+        ensures err { OnErr result (self.new.rows ≡ self.old.rows) }
+        ensures next { self.new.next ≡ self.old.next }
+    {
+        self.reserve(1)?;
+        self.put_loaded(mapping);
+        Ok(())
+    }
+
+    /// Adds a mapping, for which there is room.
+    fn put_loaded(&mut self, mapping: Mapping)
+        requires few { length self.old.rows < MAX_MAPPINGS }
+        requires block { mapping.block < 2 ^ 32 }
+        requires unmapped { mapping_at mapping.fs mapping.block self.old.rows ≡ None }
+        requires cell { mapping.cell < self.old.next }
+        requires paired { All (AgreesWith mapping) self.old.rows }
+        requires room { 0 < self.old.room }
+        ensures rows { self.new.rows ≡ put mapping self.old.rows }
+        ensures next { self.new.next ≡ self.old.next }
+    {
+        let _ = put_row(&mut self.rows, mapping);
+        add_use(&mut self.uses, mapping.place);
     }
 
     /// Maps the blocks of a plan that this map gave to its fresh cells, with no other change of the map since. It takes no memory.

@@ -1,5 +1,5 @@
 //! Where a number stands among items in order.
-ghost use Rattle.std.specs.Prelude.{◌≡◌, ◌≤◌, length};
+ghost use Rattle.std.specs.Prelude.{◌≡◌, ◌+◌, ◌≤◌, length};
 ghost use Rattle.st_thinmap.specs.Order.{RisesFrom, key, key_of};
 ghost use Rattle.st_thinmap.specs.inner.Rank.{rank};
 ghost use Rattle.st_thinmap.specs.inner.Uses as table;
@@ -20,7 +20,26 @@ pub fn row_rank(rows: &[Mapping], fs: u64, block: u32) -> usize
     ensures rank { result ≡ rank key (key_of fs block) rows.now }
     ensures within { result ≤ length rows.now }
 {
-    let wanted = key_of(fs, block);
+    rank_of(rows, key_of(fs, block))
+}
+
+/// The place of the first row of a filesystem, and of the first behind its rows.
+pub fn run_of(rows: &[Mapping], fs: u64) -> (usize, usize)
+    requires { RisesFrom key 0 rows.now }
+    ensures start { result.0 ≡ rank key (key_of fs 0) rows.now }
+    ensures end { result.1 ≡ rank key (key_of (fs + 1) 0) rows.now }
+    ensures within { result.1 ≤ length rows.now }
+{
+    let start = key_of(fs, 0);
+    (rank_of(rows, start), rank_of(rows, start + 4_294_967_296))
+}
+
+/// How many rows have lower numbers.
+fn rank_of(rows: &[Mapping], wanted: u128) -> usize
+    requires { RisesFrom key 0 rows.now }
+    ensures rank { result ≡ rank key wanted rows.now }
+    ensures within { result ≤ length rows.now }
+{
     rows.partition_point(|row| key_of(row.fs, row.block) < wanted)
 }
 

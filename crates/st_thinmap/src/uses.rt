@@ -61,6 +61,23 @@ pub fn lower(uses: &mut Vec<Use>, place: u32)
     }
 }
 
+/// One use more of a place, which may be its first. It takes no memory.
+pub fn add_use(uses: &mut Vec<Use>, place: u32)
+    requires table { IsTable uses.old.items }
+    requires small { count_in uses.old.items place < 2 ^ 32 - 1 }
+    requires room { vec_len uses.old < vec_capacity uses.old }
+    ensures table { IsTable uses.new.items }
+    ensures counts { (q : ℕ) → count_in uses.new.items q ≡ count_in uses.old.items q + one_if place q }
+    ensures len { vec_len uses.new ≤ vec_len uses.old + 1 }
+    ensures capacity { vec_capacity uses.old ≤ vec_capacity uses.new }
+{
+    if count_of(uses, place) > 0 {
+        raise(uses, place);
+    } else {
+        begin(uses, place);
+    }
+}
+
 /// One use less of the place of a mapping that was replaced, where there was one.
 pub fn lower_old(uses: &mut Vec<Use>, old: Option<Mapping>)
     requires table { IsTable uses.old.items }
