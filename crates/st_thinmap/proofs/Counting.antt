@@ -1,13 +1,13 @@
 -- the table of uses: what its edits make of the counts
-use Rattle.std.proofs.Common.{◌≡◌, ℕ, zero, suc, ◌+◌, ◌-◌, ◌<◌, ◌≤◌, Bool, true, false, List, [], ◌∷◌, ◌++◌, length, get_or, take, drop, set, cond, eqb, ltb, inl, inr, refl, sym, ◌∙◌, ap, subst, arith}
+use Rattle.std.proofs.Common.{◌≡◌, ℕ, suc, ◌+◌, ◌<◌, ◌≤◌, List, [], ◌∷◌, length, get_or, set, cond, eqb, ltb, inl, inr, refl, sym, ◌∙◌, ap, subst, arith}
 use Rattle.std.specs.List.{All, insert, remove}
 use Rattle.std.proofs.lemmas.Bool.{cases_eq, cases_lt, eq-eqb, ne_eqb, cond-true, cond-false, lt-ltb, le-ltb}
-use Rattle.std.proofs.lemmas.List.Elements.{All-nil, All-cons, All-head, All-tail}
+use Rattle.std.proofs.lemmas.List.Elements.{All-head, All-tail}
 use Rattle.st_thinmap.specs.declared.uses.Use.{Use}
 use Rattle.st_thinmap.specs.Order.{RisesFrom}
 use Rattle.st_thinmap.specs.inner.Rank.{rank}
-use Rattle.st_thinmap.specs.inner.Uses.{place, count_in, one_if, IsTable}
-use Rattle.st_thinmap.proofs.Rising.{rises-lower, rises-at, rank-within}
+use Rattle.st_thinmap.specs.inner.Uses.{place, count_in}
+use Rattle.st_thinmap.proofs.Rising.{rises-lower}
 
 here : (u : Use) (uses : List Use) (p : ℕ) → u.place ≡ p → count_in (u ∷ uses) p ≡ u.count
 here u uses p e = cond-true (eqb u.place p) u.count (count_in uses p) (eq-eqb u.place p e)

@@ -1,9 +1,9 @@
 -- what holds of every map, after a mapping is put in
-use Rattle.std.proofs.Common.{◌≡◌, ◌≢◌, ℕ, zero, suc, ◌+◌, ◌-◌, ◌^◌, ◌<◌, ◌≤◌, Bool, true, false, List, [], ◌∷◌, ◌++◌, length, get_or, cond, eqb, ltb, Option, Some, None, inl, inr, refl, sym, ◌∙◌, ap, subst, arith}
+use Rattle.std.proofs.Common.{◌≡◌, ◌≢◌, ℕ, ◌+◌, ◌-◌, ◌^◌, ◌<◌, ◌≤◌, List, [], ◌∷◌, length, get_or, cond, eqb, Option, Some, None, inl, inr, refl, sym, ◌∙◌, ap, subst, arith}
 use Rattle.std.specs.List.{All, count_by}
 use Rattle.std.specs.Option.{MatchOption}
 use Rattle.std.proofs.lemmas.Bool.{cases_eq, eq-eqb, ne_eqb, cond-true, cond-false}
-use Rattle.std.proofs.lemmas.List.Elements.{All-nil, All-cons, All-head, All-tail, All-weaker}
+use Rattle.std.proofs.lemmas.List.Elements.{All-head, All-tail}
 use Rattle.std.proofs.lemmas.List.Sums.{sum_by-cons, count_by-le-length}
 use Rattle.st_thinmap.specs.declared.mapping.Mapping.{Mapping}
 use Rattle.st_thinmap.specs.declared.uses.Use.{Use}
@@ -13,7 +13,6 @@ use Rattle.st_thinmap.specs.inner.Uses.{count_in, one_if, IsTable}
 use Rattle.st_thinmap.specs.inner.Tied.{Tied, lies_at, one, one_of}
 use Rattle.st_thinmap.proofs.Used.{eqb-symm}
 use Rattle.st_thinmap.proofs.Puts.{length-put, rises-put, All-put, count-put}
-use Rattle.st_thinmap.proofs.Table.{one_here, one_there}
 
 -- a place that no mapping has
 abbrev pub Free : List Mapping → ℕ → Type 0

@@ -7,3 +7,4 @@ pub mod Used
 pub mod Demands
 pub mod Plans
 pub mod Runs
+pub mod Copying

@@ -1,5 +1,5 @@
 -- fresh cells fit the map
-use Rattle.std.proofs.Common.{◌≡◌, ◌≢◌, ℕ, ◌+◌, ◌*◌, ◌^◌, ◌<◌, ◌≤◌, Bool, true, false, ◌&&◌, List, [], ◌∷◌, length, map, cond, eqb, ltb, Option, Some, None, inl, inr, refl, sym, ◌∙◌, ap, subst, arith}
+use Rattle.std.proofs.Common.{◌≡◌, ◌≢◌, ℕ, ◌+◌, ◌^◌, ◌<◌, ◌≤◌, Bool, true, false, ◌&&◌, List, [], ◌∷◌, length, cond, eqb, ltb, Option, inl, inr, refl, ◌∙◌, ap, arith}
 use Rattle.std.specs.List.{All, count_by}
 use Rattle.std.specs.Map.{lookup}
 use Rattle.std.specs.Option.{is_none}
@@ -7,7 +7,7 @@ use Rattle.std.proofs.lemmas.Bool.{cases_lt, cond-true, cond-false, lt-ltb, le-l
 use Rattle.std.proofs.lemmas.List.Sums.{sum_by-cons}
 use Rattle.st_thinmap.specs.declared.mapping.Mapping.{Mapping}
 use Rattle.st_thinmap.specs.declared.plan.Fresh.{Fresh}
-use Rattle.st_thinmap.specs.Order.{item_at, key, key_of, mapping_at, put}
+use Rattle.st_thinmap.specs.Order.{item_at, key, mapping_at, put}
 use Rattle.st_thinmap.specs.Thin.{Fits, IsThin, fresh_mapping, map_of, more, touched}
 use Rattle.st_thinmap.specs.inner.Tied.{one}
 use Rattle.st_thinmap.proofs.Puts.{rises-put, All-put, length-put-is, look-put}

@@ -1,5 +1,5 @@
 -- one more item among items in order
-use Rattle.std.proofs.Common.{◌≡◌, ◌≢◌, ℕ, zero, suc, ◌+◌, ◌-◌, ◌<◌, ◌≤◌, Bool, true, false, List, [], ◌∷◌, ◌++◌, length, get_or, take, drop, set, cond, eqb, ltb, Option, Some, None, ◌⊎◌, inl, inr, refl, sym, ◌∙◌, ap, subst, arith}
+use Rattle.std.proofs.Common.{◌≡◌, ℕ, suc, ◌+◌, ◌<◌, ◌≤◌, Bool, List, [], ◌∷◌, length, set, cond, eqb, ltb, Option, Some, None, ◌⊎◌, inl, inr, refl, sym, ◌∙◌, ap, subst, arith}
 use Rattle.std.specs.List.{All, insert, count_by}
 use Rattle.std.specs.Option.{is_none}
 use Rattle.std.proofs.lemmas.Bool.{cases_eq, cases_lt, eq-eqb, ne_eqb, cond-true, cond-false, lt-ltb, le-ltb}
@@ -9,7 +9,7 @@ use Rattle.st_thinmap.specs.declared.mapping.Mapping.{Mapping}
 use Rattle.st_thinmap.specs.Order.{RisesFrom, item_at, key, put}
 use Rattle.st_thinmap.specs.inner.Rank.{rank}
 use Rattle.st_thinmap.specs.inner.Tied.{one, one_of}
-use Rattle.st_thinmap.proofs.Rising.{rises-lower, none-below}
+use Rattle.st_thinmap.proofs.Rising.{none-below}
 
 -- where it goes
 pub record Lower (m r : Mapping) (rows : List Mapping) : Type 0 where

@@ -1,13 +1,14 @@
 -- the rows of a filesystem are a run of all rows
-use Rattle.std.proofs.Common.{◌≡◌, ◌≢◌, ℕ, zero, suc, ◌+◌, ◌-◌, ◌*◌, ◌^◌, ◌<◌, ◌≤◌, Bool, true, false, not, List, [], ◌∷◌, ◌++◌, length, take, drop, cond, eqb, ltb, inl, inr, refl, sym, ◌∙◌, ap, ap₂, subst, arith}
-use Rattle.std.specs.List.{All, filter}
-use Rattle.std.proofs.lemmas.Bool.{cases_eq, cases_lt, eq-eqb, ne_eqb, cond-true, cond-false, lt-ltb, le-ltb}
+use Rattle.std.proofs.Common.{◌≡◌, ℕ, suc, ◌+◌, ◌-◌, ◌^◌, ◌<◌, ◌≤◌, true, false, not, List, [], ◌∷◌, ◌++◌, length, take, drop, eqb, ltb, inl, inr, refl, sym, ◌∙◌, ap, ap₂, arith}
+use Rattle.std.specs.List.{All}
+use Rattle.std.proofs.lemmas.Bool.{cases_lt, eq-eqb, ne_eqb, cond-true, cond-false, lt-ltb, le-ltb}
+use Rattle.std.proofs.lemmas.List.{length-take, length-drop}
 use Rattle.std.proofs.lemmas.List.Elements.{All-head, All-tail}
 use Rattle.st_thinmap.specs.declared.mapping.Mapping.{Mapping}
 use Rattle.st_thinmap.specs.Order.{RisesFrom, key, key_of}
 use Rattle.st_thinmap.specs.Thin.{of_fs, without_fs}
 use Rattle.st_thinmap.specs.inner.Rank.{rank}
-use Rattle.st_thinmap.proofs.Rising.{rank-none}
+use Rattle.st_thinmap.proofs.Rising.{rank-within}
 
 -- the run of a filesystem, and all before it and behind it
 pub record Run (fs : ℕ) (rows : List Mapping) : Type 0 where
@@ -78,3 +79,11 @@ run_is fs low (m ∷ rows) r h =
             rest = all.1 ∙ sym (ap (λ (i : ℕ). take i (m ∷ rows) ++ drop (rank key k (m ∷ rows)) (m ∷ rows)) start);
           }
     ]
+
+pub run_length : (fs : ℕ) (rows : List Mapping) → RisesFrom key 0 rows → All (λ (m : Mapping). m.block < 2 ^ 32) rows
+    → (rank key (key_of fs 0) rows ≤ rank key (key_of (fs + 1) 0) rows) × (length (of_fs fs rows) ≡ rank key (key_of (fs + 1) 0) rows - rank key (key_of fs 0) rows)
+run_length fs rows r h =
+    let run = run_is fs 0 rows r h in
+    let start : ℕ = rank key (key_of fs 0) rows in
+    let end : ℕ = rank key (key_of (fs + 1) 0) rows in
+    (run.order, ap length run.own ∙ omega (arith, length-take (end - start) (drop start rows), length-drop start rows, rank-within key (key_of (fs + 1) 0) rows, run.order))

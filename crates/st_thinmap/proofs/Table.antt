@@ -1,5 +1,5 @@
 -- the table of uses after each call: it is a table still, and one count has changed by one
-use Rattle.std.proofs.Common.{◌≡◌, ℕ, zero, suc, ◌+◌, ◌-◌, ◌<◌, ◌≤◌, Bool, true, false, List, [], ◌∷◌, ◌++◌, length, get_or, take, drop, set, cond, eqb, ltb, inl, inr, refl, sym, ◌∙◌, ap, subst, arith}
+use Rattle.std.proofs.Common.{◌≡◌, ℕ, zero, suc, ◌+◌, ◌-◌, ◌<◌, ◌≤◌, List, [], ◌∷◌, length, get_or, take, drop, set, eqb, ltb, inl, inr, refl, sym, ◌∙◌, ap, subst, arith}
 use Rattle.std.specs.List.{All, insert, remove}
 use Rattle.std.proofs.lemmas.Bool.{cases_eq, cases_lt, eq-eqb, ne_eqb, cond-true, cond-false, lt-ltb, le-ltb}
 use Rattle.std.proofs.lemmas.List.Elements.{All-cons, All-head, All-tail, All-append, All-set, All-take, All-drop}
@@ -7,7 +7,7 @@ use Rattle.st_thinmap.specs.declared.uses.Use.{Use}
 use Rattle.st_thinmap.specs.Order.{RisesFrom}
 use Rattle.st_thinmap.specs.inner.Rank.{rank}
 use Rattle.st_thinmap.specs.inner.Uses.{place, count_in, one_if, IsTable, IsFreeAt}
-use Rattle.st_thinmap.proofs.Rising.{rises-at, rises-between, rank-within, rank-is, rank-behind, at-rank, rank-none}
+use Rattle.st_thinmap.proofs.Rising.{rises-between, rank-is, rank-behind, at-rank, rank-none}
 use Rattle.st_thinmap.proofs.Counting.{Edited, set-edits, insert-edits, remove-edits, stands, count-at, count-none}
 
 IsUsed : Use → Type 0

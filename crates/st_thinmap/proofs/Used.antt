@@ -1,21 +1,19 @@
 -- the table has an entry for each cell: how many there are
-use Rattle.std.proofs.Common.{◌≡◌, ◌≢◌, ℕ, zero, suc, ◌+◌, ◌<◌, ◌≤◌, Bool, true, false, ◌||◌, List, [], ◌∷◌, length, map, get_or, cond, eqb, ltb, inl, inr, refl, sym, ◌∙◌, ap, ap₂, subst, arith}
-use Rattle.std.specs.List.{All, AllByRecursion, IsDistinct, count_by, list_any}
+use Rattle.std.proofs.Common.{◌≡◌, ◌≢◌, ℕ, suc, ◌+◌, ◌<◌, ◌≤◌, Bool, true, false, ◌||◌, List, [], ◌∷◌, length, map, get_or, cond, eqb, ltb, inl, inr, refl, sym, ◌∙◌, ap, ap₂, arith}
+use Rattle.std.specs.List.{All, AllByRecursion, IsDistinct, count_by}
 use Rattle.std.specs.Cmp.{IsEquivalence}
 use Rattle.std.specs.Set.{distinct_count, is_member, unique_keys}
-use Rattle.std.proofs.lemmas.Bool.{cases_eq, cases_Bool, eq-eqb, ne_eqb, eqb-true, eqb-false, cond-true, cond-false, lt-ltb, le-ltb, or_left, or_right, or_from}
+use Rattle.std.proofs.lemmas.Bool.{cases_eq, eq-eqb, ne_eqb, eqb-true, cond-true, cond-false, lt-ltb, or_left}
 use Rattle.std.proofs.lemmas.List.Elements.{All-nil, All-cons, All-head, All-tail}
 use Rattle.std.proofs.lemmas.List.{length-map}
 use Rattle.std.proofs.lemmas.List.Sums.{sum_by-cons}
 use Rattle.std.proofs.lemmas.Map.Made.{length-from_keys, distinct_count-le}
-use Rattle.st_limits.specs.Sums as sums
 use Rattle.st_thinmap.specs.declared.mapping.Mapping.{Mapping}
 use Rattle.st_thinmap.specs.declared.uses.Use.{Use}
 use Rattle.st_thinmap.specs.Order.{RisesFrom}
 use Rattle.st_thinmap.specs.Thin.{IsThin, AgreesWith, cells_of, used}
-use Rattle.st_thinmap.specs.inner.Uses.{place, count_in, IsTable}
+use Rattle.st_thinmap.specs.inner.Uses.{place, count_in}
 use Rattle.st_thinmap.specs.inner.Tied.{Tied, lies_at, one}
-use Rattle.st_thinmap.proofs.Counting.{count-below}
 
 pub eqb-symm : (x y : ℕ) → eqb x y ≡ eqb y x
 eqb-symm x y = elim (cases_eq x y) [

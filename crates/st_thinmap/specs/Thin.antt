@@ -1,5 +1,5 @@
 -- what a thin map stands for, and what its calls make of it
-use Rattle.std.specs.Prelude.{◌≡◌, ◌≢◌, ℕ, ◌+◌, ◌-◌, ◌^◌, ◌<◌, ◌≤◌, Bool, not, nat_eq, nat_lt, List, [], ◌∷◌, ◌++◌, length, map, filter, if◌then◌else◌}
+use Rattle.std.specs.Prelude.{◌≡◌, ◌≢◌, ℕ, ◌+◌, ◌^◌, ◌<◌, ◌≤◌, not, nat_eq, nat_lt, List, [], ◌∷◌, length, map, filter, if◌then◌else◌}
 use Rattle.std.specs.List.{All}
 use Rattle.st_limits.specs.Sums as sums
 use Rattle.st_limits.specs.declared.TheConstants.{MAX_MAPPINGS}

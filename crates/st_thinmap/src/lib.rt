@@ -1,6 +1,7 @@
 //! The thin map of a pool: which cell each block of each filesystem is mapped to, and where the cell lies.
 #![tactic(auto)]
 
+mod copies;
 mod fault;
 mod map;
 mod mapping;

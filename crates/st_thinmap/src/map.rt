@@ -1,15 +1,19 @@
-ghost use Rattle.std.specs.Prelude.{◌≡◌, ◌≢◌, ◌+◌, ◌-◌, ◌^◌, ◌<◌, ◌≤◌, [], length, option_map, slice_get, count_by, Some, None, IfOk, OnErr, OnOk};
+ghost use Rattle.std.specs.Prelude.{◌≡◌, ◌≢◌, ◌+◌, ◌-◌, ◌^◌, ◌<◌, ◌≤◌, [], length, option_map, slice_get, count_by, Some, None, Err, IfOk, IfErr, OnErr, OnOk, ℕ, ◌++◌, map};
 ghost use Rattle.std.specs.List.{All};
 ghost use Rattle.st_limits.specs.declared.TheConstants.{MAX_MAPPINGS};
+ghost use Rattle.st_thinmap.specs.declared.fault.MapFault.TheVariants.{MappingFull};
 ghost use Rattle.st_thinmap.specs.Order.{mapping_at, put};
 ghost use Rattle.st_thinmap.specs.inner.Tied.{lies_at};
-ghost use Rattle.st_thinmap.specs.Thin.{AgreesWith, Fits, IsThin, of_fs, fresh_mapping, used, with_fresh};
+ghost use Rattle.st_thinmap.specs.Thin.{AgreesWith, Fits, IsThin, of_fs, fresh_mapping, used, with_fresh, with_fs};
 
+use crate::copies::copy_rows;
+use crate::fault::MapFault;
 use crate::mapping::Mapping;
 use crate::order::run_of;
 use crate::plan::{Fresh, Plan};
 use crate::rows::{find_row, put_row};
 use crate::uses::{Use, add_use, begin, count_of, gap, lower_old};
+use st_limits::MAX_MAPPINGS;
 use st_units::NoMemory;
 use std::alloc::{AllocError, Global};
 use std::marker::Model;
@@ -156,7 +160,8 @@ impl ThinMap {
 
     /// How many blocks of the filesystem are mapped.
     pub fn mapped(&self, fs: u64) -> u64
-        ensures { result ≡ length (of_fs fs self.now.rows) }
+        ensures count { result ≡ length (of_fs fs self.now.rows) }
+        ensures few { result ≤ length self.now.rows }
     {
         let (start, end) = run_of(&self.rows, fs);
         (end - start) as u64
@@ -191,6 +196,38 @@ impl ThinMap {
     {
         let _ = put_row(&mut self.rows, mapping);
         add_use(&mut self.uses, mapping.place);
+    }
+
+    /// Maps the blocks of a new filesystem as those of `origin` are mapped. Its serial is above those of all filesystems that
+    /// have mappings. It takes time in the number of the origin's mappings.
+    pub fn snapshot(&mut self, origin: u64, fs: u64) -> Result<(), MapFault>
+        requires above { All (λ (m : Mapping). m.fs < fs) self.old.rows }
+        ensures full { MAX_MAPPINGS < length self.old.rows + length (of_fs origin self.old.rows) → result ≡ Err (MappingFull (length self.old.rows) (length (of_fs origin self.old.rows))) }
+        ensures full_only { IfErr result (λ fault. (m n : ℕ) → fault ≡ MappingFull m n → MAX_MAPPINGS < length self.old.rows + length (of_fs origin self.old.rows)) }
+        ensures ok { OnOk result (self.new.rows ≡ self.old.rows ++ map (with_fs fs) (of_fs origin self.old.rows)) }
+        ensures err { OnErr result (self.new.rows ≡ self.old.rows) }
+        ensures next { self.new.next ≡ self.old.next }
+    {
+        let mappings = self.mappings();
+        let more = self.mapped(origin);
+        if MAX_MAPPINGS < mappings + more {
+            return Err(MapFault::MappingFull(mappings, more));
+        }
+        self.reserve(more as usize)?;
+        self.put_copies(origin, fs);
+        Ok(())
+    }
+
+    /// Adds the copies of a snapshot, for which there is room.
+    fn put_copies(&mut self, origin: u64, fs: u64)
+        requires above { All (λ (m : Mapping). m.fs < fs) self.old.rows }
+        requires few { length self.old.rows + length (of_fs origin self.old.rows) ≤ MAX_MAPPINGS }
+        requires room { length (of_fs origin self.old.rows) ≤ self.old.room }
+        ensures rows { self.new.rows ≡ self.old.rows ++ map (with_fs fs) (of_fs origin self.old.rows) }
+        ensures next { self.new.next ≡ self.old.next }
+    {
+        let (start, end) = run_of(&self.rows, origin);
+        copy_rows(&mut self.rows, &mut self.uses, start, end, fs);
     }
 
     /// Maps the blocks of a plan that this map gave to its fresh cells, with no other change of the map since. It takes no memory.

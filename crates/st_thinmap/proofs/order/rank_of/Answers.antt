@@ -1,8 +1,7 @@
-use Rattle.std.proofs.Common.{ltb, ltb-true, ltb-false, rules, ap, ◌∙◌}
+use Rattle.std.proofs.Common.{ltb, ltb-true, ltb-false, rules}
 use Rattle.std.proofs.lemmas.List.Sorted.{IsPartitionPoint-from_clause, IsPartitionedBy-ltb}
 use Rattle.st_thinmap.specs.declared.mapping.Mapping.{Mapping}
 use Rattle.st_thinmap.specs.Order.{key}
-use Rattle.st_thinmap.specs.inner.Rank.{rank}
 use Rattle.st_thinmap.proofs.Rising.{rises-sorted, rank-is}
 use Rattle.st_thinmap.proofs.order.rank_of.Goals as goal
 

@@ -1,5 +1,4 @@
-use Rattle.std.proofs.Common.{◌≡◌, sym, ◌∙◌, arith}
-use Rattle.st_thinmap.specs.declared.mapping.Mapping.{Mapping}
+use Rattle.std.proofs.Common.{sym, ◌∙◌, arith}
 use Rattle.st_thinmap.specs.Order.{key, key_of}
 use Rattle.st_thinmap.proofs.Rising.{found-at, missed-at}
 use Rattle.st_thinmap.proofs.rows.find_row.Goals as goal

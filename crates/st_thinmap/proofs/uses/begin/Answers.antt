@@ -1,9 +1,7 @@
-use Rattle.std.proofs.Common.{◌≡◌, ap, ◌∙◌, sym, arith, length, List, get_or, refl}
-use Rattle.st_thinmap.specs.inner.Uses.{place, count_in}
+use Rattle.std.proofs.Common.{ap, ◌∙◌, List}
+use Rattle.st_thinmap.specs.inner.Uses.{place}
 use Rattle.st_thinmap.specs.inner.Rank.{rank}
 use Rattle.st_thinmap.specs.declared.uses.Use.{Use}
-use Rattle.std.proofs.Common.{is_ok, cond, true}
-use Rattle.std.specs.List.{insert}
 use Rattle.st_thinmap.proofs.Table.{begun}
 use Rattle.st_thinmap.proofs.uses.begin.Goals as goal
 

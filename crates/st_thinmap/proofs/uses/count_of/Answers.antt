@@ -1,4 +1,4 @@
-use Rattle.std.proofs.Common.{ap, ◌∙◌, arith}
+use Rattle.std.proofs.Common.{arith}
 use Rattle.st_thinmap.proofs.Table.{count_found, count_missed}
 use Rattle.st_thinmap.proofs.uses.count_of.Goals as goal
 use Rattle.st_thinmap.proofs.uses.count_of.Goals.{else-at-uses-via-then-at-uses+else-uses-at, else-at-uses-via-else-at-uses}

@@ -1,4 +1,4 @@
-use Rattle.std.proofs.Common.{◌≡◌, ℕ, ◌+◌, ◌-◌, ◌<◌, ◌≤◌, length, get_or}
+use Rattle.std.proofs.Common.{◌≡◌, ◌+◌, ◌-◌, ◌<◌, ◌≤◌, length, get_or}
 use Rattle.st_thinmap.specs.declared.uses.Use.{Use}
 use Rattle.st_thinmap.specs.inner.Rank.{rank}
 use Rattle.st_thinmap.specs.inner.Uses.{place}

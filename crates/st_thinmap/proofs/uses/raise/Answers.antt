@@ -1,4 +1,4 @@
-use Rattle.std.proofs.Common.{◌≡◌, ap, ◌∙◌, sym, arith, length, List, get_or, refl, ◌+◌}
+use Rattle.std.proofs.Common.{◌≡◌, ap, ◌∙◌, arith, List, ◌+◌}
 use Rattle.st_thinmap.specs.inner.Uses.{place, count_in}
 use Rattle.st_thinmap.specs.inner.Rank.{rank}
 use Rattle.st_thinmap.specs.declared.uses.Use.{Use}

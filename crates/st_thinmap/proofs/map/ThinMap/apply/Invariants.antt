@@ -1,4 +1,4 @@
-use Rattle.std.proofs.Common.{◌≡◌, ◌+◌, ◌≤◌, length, drop}
+use Rattle.std.proofs.Common.{◌≡◌, ◌+◌, ◌≤◌, drop}
 use Rattle.st_thinmap.specs.Thin.{Fits, with_fresh}
 use Rattle.st_thinmap.proofs.map.ThinMap.apply.Given as goal
 

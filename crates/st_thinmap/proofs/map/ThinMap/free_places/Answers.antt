@@ -1,4 +1,4 @@
-use Rattle.std.proofs.Common.{◌≡◌, ◌+◌, ◌-◌, List, length, sym, ap, subst, ◌∙◌, arith}
+use Rattle.std.proofs.Common.{◌≡◌, ◌+◌, ◌-◌, List, length, sym, ap, subst, arith}
 use Rattle.st_thinmap.specs.declared.uses.Use.{Use}
 use Rattle.st_thinmap.specs.Thin.{Thin, used}
 use Rattle.st_thinmap.specs.inner.Uses.{IsFreeAt, count_in}

@@ -1,4 +1,4 @@
-use Rattle.std.proofs.Common.{◌+◌, sym, subst, ap, arith}
+use Rattle.std.proofs.Common.{◌+◌, sym, subst, arith}
 use Rattle.st_thinmap.specs.declared.plan.Fresh.{Fresh}
 use Rattle.st_thinmap.specs.Planned.{Planned}
 use Rattle.st_thinmap.specs.Thin.{Fits}

@@ -1,4 +1,4 @@
-use Rattle.std.proofs.Common.{◌≡◌, ◌<◌, Bool, true, ltb, ltb-true, sym, ◌∙◌, arith}
+use Rattle.std.proofs.Common.{◌<◌, Bool, ltb, ltb-true, sym, arith}
 use Rattle.st_limits.specs.Sums as sums
 use Rattle.st_thinmap.specs.Thin.{cells_of, map_of}
 use Rattle.st_thinmap.proofs.Plans.{more_two, more_first, both_parts}

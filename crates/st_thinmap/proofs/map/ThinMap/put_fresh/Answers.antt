@@ -1,8 +1,7 @@
-use Rattle.std.proofs.Common.{◌≡◌, ◌+◌, sym, subst, ap, ◌∙◌, arith, List, ℕ}
+use Rattle.std.proofs.Common.{◌≡◌, ◌+◌, sym, subst, ap, ◌∙◌, List}
 use Rattle.st_thinmap.specs.declared.mapping.Mapping.{Mapping}
-use Rattle.st_thinmap.specs.Order.{key, key_of}
+use Rattle.st_thinmap.specs.Order.{key_of}
 use Rattle.st_thinmap.specs.Thin.{Thin, IsThin}
-use Rattle.st_thinmap.specs.inner.Tied.{Tied}
 use Rattle.st_thinmap.proofs.Keeping.{Free, IsFew, old_present, absent-then, Tied-put, IsThin-put}
 use Rattle.st_thinmap.proofs.map.ThinMap.put_fresh.Goals as goal
 

@@ -1,4 +1,4 @@
-use Rattle.std.proofs.Common.{◌≡◌, List, None, sym, subst, ap, ◌∙◌, arith, length}
+use Rattle.std.proofs.Common.{◌≡◌, List, None, sym, subst, ap, arith, length}
 use Rattle.std.specs.List.{All}
 use Rattle.st_thinmap.specs.declared.mapping.Mapping.{Mapping}
 use Rattle.st_thinmap.specs.Order.{key, item_at}
