@@ -9,3 +9,4 @@ pub mod Committing
 pub mod Segmented
 pub mod Engine
 pub mod EngineKeeping
+pub mod SegmentBlocks

@@ -1,8 +1,9 @@
 -- What is true of all pools, devices and images.
-use Rattle.std.specs.Prelude.{◌≡◌, ◌≢◌, ℕ, ◌+◌, true, List, Option, Some, map, slice_get}
+use Rattle.std.specs.Prelude.{◌≡◌, ◌≢◌, ℕ, ◌+◌, true, List, take, Option, Some, map, slice_get}
 use Rattle.std.specs.List.{AllByRecursion}
 use Rattle.st_limits.specs.Sums.{IsDeviceSize}
 use Rattle.st_units.specs.declared.rows.DevRow.{DevRow}
+use Rattle.st_seg.specs.Blocks.{blocks_of}
 use Rattle.st_datatier.specs.Segments.{segment_rows}
 use Rattle.st_poolrec.specs.Conditions.{take_in_order}
 use Rattle.st_poolrec.specs.declared.record.PoolRec.{PoolRec}
@@ -26,6 +27,7 @@ use Rattle.st_image.specs.Kept.{as_pair, in_use, Kept}
 use Rattle.st_image.specs.Calm.{Shows, Calm}
 use Rattle.st_image.specs.Committed.{Committed}
 use Rattle.st_image.specs.EngineKept.{EngineKept}
+use Rattle.st_image.specs.RowBlocks.{row_blocks}
 use Rattle.st_image.specs.Rack.{RackStands, IsForeign}
 use Rattle.st_image.specs.Pieces.{ArePieces, bytes_of}
 use Rattle.st_image.specs.Frame.{AgreesOn}
@@ -97,3 +99,7 @@ SameCommits = (pool : PoolState) (call : Call) (devs : Devices) (q : PoolState) 
 -- The blocks that a data tier has taken, as segments of a pool's rows, keep the conditions of its record.
 abbrev pub SegmentsInOrder : Type 0
 SegmentsInOrder = (n : ℕ) (rows : List DevRow) → AllByRecursion (λ (row : DevRow). IsDeviceSize row.sectors) rows → take_in_order 0 (segment_rows 0 n rows) rows ≡ true
+
+-- They are the first blocks that the pool's devices have for data, in order of its rows.
+abbrev pub SegmentsAreBlocks : Type 0
+SegmentsAreBlocks = (n : ℕ) (rows : List DevRow) → blocks_of (segment_rows 0 n rows) ≡ take n (row_blocks 0 rows)

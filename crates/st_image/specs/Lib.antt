@@ -6,6 +6,7 @@ pub mod Frame
 pub mod Kept
 pub mod Calm
 pub mod Rack
+pub mod RowBlocks
 pub mod EngineKept
 pub mod Committed
 pub mod Pieces

@@ -1,6 +1,6 @@
 //! Laws of what devices stand for and keep. They do nothing when they run.
 
-ghost use Rattle.st_image.specs.Laws.{StandsOnce, RackStandsOnce, NotForeign, UpStands, UpIsKept, CommittedShows, CellsWithPieces, KeptWhereSame, KeptBySync, KeptByCut, EngineKeptBySync, EngineKeptByCut, KeptByStop, OtherCommits, SameCommits, SegmentsInOrder};
+ghost use Rattle.st_image.specs.Laws.{StandsOnce, RackStandsOnce, NotForeign, UpStands, UpIsKept, CommittedShows, CellsWithPieces, KeptWhereSame, KeptBySync, KeptByCut, EngineKeptBySync, EngineKeptByCut, KeptByStop, OtherCommits, SameCommits, SegmentsInOrder, SegmentsAreBlocks};
 
 /// Devices stand for one thing at most.
 pub fn stands_once()
@@ -80,4 +80,9 @@ pub fn same_commits()
 /// The blocks that a data tier has taken are segments of a record.
 pub fn segments_in_order()
     ensures { SegmentsInOrder }
+{}
+
+/// The blocks of these segments are the first that the pool's devices have for data.
+pub fn segments_are_blocks()
+    ensures { SegmentsAreBlocks }
 {}
