@@ -1,1 +1,3 @@
 mod Broken
+mod Merges
+mod Refusals

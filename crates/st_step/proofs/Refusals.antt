@@ -1,0 +1,302 @@
+-- a call that is refused changes nothing
+use Rattle.std.proofs.Common.{◌≡◌, ℕ, ◌==◌, ◌&&◌, List, [], ◌∷◌, Bool, true, false, cond, map, Option, Some, None, unwrap_or, refl, ap, ◌∙◌, subst}
+use Rattle.std.specs.List.{AllByRecursion}
+use Rattle.st_units.specs.declared.cause.Cause.TheVariants.{DeviceFault, OutOfMemory}
+use Rattle.st_model.specs.declared.call.Call.{Call}
+use Rattle.st_model.specs.declared.call.Call.TheVariants.{CreatePool, DestroyPool, StopPool, StartPool, RenamePool, AddDataDevs, InitCache, AddCacheDevs, CreateFilesystems, DestroyFilesystems, SnapshotFilesystem, RenameFilesystem, SetSizeLimit, SetFsLimit, SetOverprovisioning, FsWrite, FsRead, Check, PoolReport, PoolReports, EngineStateReport, SetMerge, PowerCycle}
+use Rattle.st_model.specs.declared.call.PoolId.{PoolId}
+use Rattle.st_model.specs.declared.entry.Env.{Env}
+use Rattle.st_model.specs.declared.entry.Env.TheVariants.{Plain, NoMem, FaultRead, FaultWrite, After, Before}
+use Rattle.st_model.specs.declared.reply.Reply.{Reply}
+use Rattle.st_model.specs.declared.state.EngineState.{EngineState}
+use Rattle.st_model.specs.declared.state.FsState.{FsState}
+use Rattle.st_model.specs.declared.state.PoolMode.{PoolMode}
+use Rattle.st_model.specs.declared.state.PoolMode.TheVariants.{Up, Down, Stopped, Unsettled, Incomplete}
+use Rattle.st_model.specs.declared.state.PoolState.{PoolState}
+use Rattle.st_model.specs.Answer.{first_answer, refused, unless_answered}
+use Rattle.st_model.specs.Checks.{fs_at, in_fs, on_fs}
+use Rattle.st_model.specs.Flight.{in_flight, state_before}
+use Rattle.st_model.specs.Found.{found_after, found_after_of, found_before, taken_over, unsettled_in, with_own_serial}
+use Rattle.st_model.specs.Lifted.{Doing, answer_in, answer_of, is_known, on_pool, one_changed, runs_as}
+use Rattle.st_model.specs.Local.{Outcome, where_so}
+use Rattle.st_model.specs.Look.{Text, is_started}
+use Rattle.st_model.specs.Parts.{own, pool_at}
+use Rattle.st_model.specs.Plain.{plain}
+use Rattle.st_model.specs.Sound.{are_few}
+use Rattle.st_model.specs.Step.{fault_on, found, is_ok, on_flight, reaches, touches, usual, wrote}
+use Rattle.st_model.specs.Valid.{IsValid}
+use Rattle.st_model.specs.steps.CreateFilesystems.{create_filesystems, fs_answers, to_create}
+use Rattle.st_model.specs.steps.CreatePool.{create_answer, create_plain}
+use Rattle.st_model.specs.steps.DestroyPool.{destroy_answers, destroy_found, destroy_pool}
+use Rattle.st_model.specs.steps.EngineStateReport.{report_plain}
+use Rattle.st_model.specs.steps.PoolReport.{pool_report}
+use Rattle.st_model.specs.steps.PoolReports.{pool_reports}
+use Rattle.st_model.specs.steps.PowerCycle.{power_cycle}
+use Rattle.st_model.specs.steps.RenameFilesystem.{rename_filesystem, rename_fs, rename_fs_answers}
+use Rattle.st_model.specs.steps.RenamePool.{rename_answers, rename_found, rename_pool}
+use Rattle.st_model.specs.steps.SetFsLimit.{limit_answers, set_fs_limit}
+use Rattle.st_model.specs.steps.SetMerge.{mark_fs, merge_answers, set_merge}
+use Rattle.st_model.specs.steps.SetOverprovisioning.{overprovisioning_answers, set_overprovisioning}
+use Rattle.st_model.specs.steps.SetSizeLimit.{limit_fs, set_size_limit, size_limit_answers}
+use Rattle.st_model.specs.steps.StartPool.{pool_meant, start_found, start_in, start_pool}
+use Rattle.st_model.specs.steps.StopPool.{stop_found, stop_pool}
+use Rattle.st_model.proofs.Among.{IsPlaced, all_placed}
+use Rattle.st_model.proofs.Kept.{own_of}
+use Rattle.st_step.specs.Laws.{RefusalsKeep}
+
+-- what is refused changes nothing
+abbrev Keeps : {S : Type 0} → S → Reply × S → Type 0
+Keeps s after = (after.0.code == 0) ≡ false → after.1 ≡ s
+
+unless-keeps : {S : Type 0} (a : Option Reply) (s : S) (next : Reply × S) → (next.0.code == 0) ≡ true → Keeps s (unless_answered a s next)
+unless-keeps None s next zero h = absurd (clash (next.0.code == 0) h zero)
+  where
+    clash : (b : Bool) → b ≡ false → b ≡ true → ⊥
+    clash b f t = absurd cc
+unless-keeps (Some r) s next zero h = refl
+
+fs-keeps : (f : FsState → PoolState → Reply × PoolState) → ((fs : FsState) (p : PoolState) → Keeps p (f fs p)) → (name : Text) (p : PoolState) → Keeps p (on_fs name f p)
+fs-keeps f h name p = here (fs_at name p.filesystems)
+  where
+    here : (o : Option FsState) → Keeps p (in_fs f p o)
+    here None e = refl
+    here (Some fs) e = h fs p e
+
+-- a call within a pool
+module _ (s : EngineState) (name : Text) (f : Doing) (keeps : (p : PoolState) → Keeps p (f p)) where
+  one_kept : (p : PoolState) → IsPlaced s.devices s.pools p → ((on_pool name f s).0.code == 0) ≡ false → one_changed name (λ q. (f q).1) p ≡ p
+  unfolding on_pool
+  one_kept p placed h = here (runs_as name p) refl
+    where
+      here : (b : Bool) → runs_as name p ≡ b → cond b (f p).1 p ≡ p
+      here false e = refl
+      here true e =
+          let o = own_of s name p placed e in
+          let same : answer_of (λ q. (f q).0) (is_known name s) (own name s) ≡ (f p).0 = ap (answer_of (λ q. (f q).0) (is_known name s)) o.own ∙ ap (answer_in (λ q. (f q).0) p) o.is_up in
+          keeps p (subst (λ (r : Reply). (r.code == 0) ≡ false) same h)
+
+  all_kept : (ps : List PoolState) → AllByRecursion (IsPlaced s.devices s.pools) ps → ((on_pool name f s).0.code == 0) ≡ false → map (one_changed name (λ q. (f q).1)) ps ≡ ps
+  all_kept [] a h = refl
+  all_kept (p ∷ ps) a h = rw (one_kept p a.0 h, all_kept ps a.1 h) refl
+
+  pool-keeps : IsValid s → Keeps s (on_pool name f s)
+  unfolding on_pool
+  pool-keeps v h = ap (λ (l : List PoolState). record s { pools = l }) (all_kept s.pools (all_placed s.devices s.pools v.apart) h)
+
+-- each call within a pool
+create_fs-keeps : (specs : _) (p : PoolState) → Keeps p (create_filesystems specs p)
+unfolding create_filesystems
+create_fs-keeps specs p = unless-keeps (first_answer (fs_answers (to_create specs p) p)) p _ refl
+
+rename_fs-keeps : (name new : Text) (p : PoolState) → Keeps p (rename_filesystem name new p)
+unfolding rename_filesystem
+rename_fs-keeps name new = fs-keeps (rename_fs new) (λ fs p. unless-keeps (first_answer (rename_fs_answers new fs p)) p _ refl) name
+
+size_limit-keeps : (name : Text) (limit : Option ℕ) (p : PoolState) → Keeps p (set_size_limit name limit p)
+unfolding set_size_limit
+size_limit-keeps name limit = fs-keeps (limit_fs limit) (λ fs p. unless-keeps (first_answer (size_limit_answers limit fs p)) p _ refl) name
+
+limit-keeps : (limit : ℕ) (p : PoolState) → Keeps p (set_fs_limit limit p)
+unfolding set_fs_limit
+limit-keeps limit p = unless-keeps (first_answer (limit_answers limit p)) p _ refl
+
+overprovisioning-keeps : (value : Bool) (p : PoolState) → Keeps p (set_overprovisioning value p)
+unfolding set_overprovisioning
+overprovisioning-keeps value p = unless-keeps (first_answer (overprovisioning_answers value p)) p _ refl
+
+merge-keeps : (name : Text) (value : Bool) (p : PoolState) → Keeps p (set_merge name value p)
+unfolding set_merge
+merge-keeps name value = fs-keeps (mark_fs value) (λ fs p. unless-keeps (first_answer (merge_answers value fs p)) p _ refl) name
+
+report-keeps : (p : PoolState) → Keeps p (pool_report p)
+unfolding pool_report
+report-keeps p h = refl
+
+-- each other call
+create-keeps : (s : EngineState) (name : Text) (paths : List Text) → Keeps s (create_plain s name paths)
+unfolding create_plain
+create-keeps s name paths = unless-keeps (create_answer s name paths) s _ refl
+
+destroy-keeps : (s : EngineState) (name : Text) → Keeps s (destroy_pool name s)
+unfolding destroy_pool
+destroy-keeps s name = here (pool_at name s.pools)
+  where
+    here : (o : Option PoolState) → Keeps s (destroy_found s o)
+    here None h = refl
+    here (Some p) h = unless-keeps (first_answer (destroy_answers p)) s _ refl h
+
+stop-keeps : (s : EngineState) (name : Text) → Keeps s (stop_pool name s)
+unfolding stop_pool
+stop-keeps s name = here (pool_at name s.pools)
+  where
+    so : (b : Bool) (a c : Reply × EngineState) → (a.0.code == 0) ≡ true → c.1 ≡ s → Keeps s (cond b a c)
+    so true a c zero e h = absurd (clash (a.0.code == 0) h zero)
+      where
+        clash : (b : Bool) → b ≡ false → b ≡ true → ⊥
+        clash b f t = absurd cc
+    so false a c zero e h = e
+
+    here : (o : Option PoolState) → Keeps s (stop_found s name o)
+    here None h = refl
+    here (Some p) h = so (is_started p.mode) _ _ refl refl h
+
+rename-keeps : (s : EngineState) (name new : Text) → Keeps s (rename_pool name new s)
+unfolding rename_pool
+rename-keeps s name new = here (pool_at name s.pools)
+  where
+    here : (o : Option PoolState) → Keeps s (rename_found s name new o)
+    here None h = refl
+    here (Some p) h = unless-keeps (first_answer (rename_answers s name new p)) s _ refl h
+
+abbrev KeepsIfAny : EngineState → Outcome → Type 0
+KeepsIfAny s None = Unit {0}
+KeepsIfAny s (Some after) = Keeps s after
+
+start-keeps : (s : EngineState) (id : PoolId) → KeepsIfAny s (start_pool id s)
+unfolding start_pool
+start-keeps s id = here (pool_meant id s)
+  where
+    in_mode : (p : PoolState) (m : PoolMode) → KeepsIfAny s (start_in s p m)
+    in_mode p Up = λ h. refl
+    in_mode p (Down call) = λ h. refl
+    in_mode p Stopped = λ h. absurd cc
+    in_mode p (Unsettled call) = tt
+    in_mode p (Incomplete path) = λ h. refl
+
+    here : (o : Option PoolState) → KeepsIfAny s (start_found s o)
+    here None = λ h. refl
+    here (Some p) = in_mode p p.mode
+
+cycle-keeps : (s : EngineState) → Keeps s (power_cycle s)
+unfolding power_cycle
+cycle-keeps s h = absurd cc
+
+engine-keeps : (s : EngineState) → Keeps s (report_plain s)
+unfolding report_plain
+engine-keeps s h = refl
+
+reports-keep : (s : EngineState) (pools : List Text) (b : Bool) → KeepsIfAny s (where_so b (pool_reports pools s))
+unfolding pool_reports
+reports-keep s pools true = λ h. refl
+reports-keep s pools false = tt
+
+plain-keeps : (s : EngineState) (call : Call) → IsValid s → KeepsIfAny s (plain s call)
+plain-keeps s (CreatePool name devices) v = create-keeps s name devices
+plain-keeps s (DestroyPool name) v = destroy-keeps s name
+plain-keeps s (StopPool name) v = stop-keeps s name
+plain-keeps s (StartPool id) v = start-keeps s id
+plain-keeps s (RenamePool name new) v = rename-keeps s name new
+plain-keeps s (CreateFilesystems pool specs) v = pool-keeps s pool (create_filesystems specs) (create_fs-keeps specs) v
+plain-keeps s (RenameFilesystem pool name new) v = pool-keeps s pool (rename_filesystem name new) (rename_fs-keeps name new) v
+plain-keeps s (SetSizeLimit pool name limit) v = pool-keeps s pool (set_size_limit name limit) (size_limit-keeps name limit) v
+plain-keeps s (SetFsLimit pool limit) v = pool-keeps s pool (set_fs_limit limit) (limit-keeps limit) v
+plain-keeps s (SetOverprovisioning pool value) v = pool-keeps s pool (set_overprovisioning value) (overprovisioning-keeps value) v
+plain-keeps s (SetMerge pool name value) v = pool-keeps s pool (set_merge name value) (merge-keeps name value) v
+plain-keeps s (PoolReport pool) v = pool-keeps s pool pool_report report-keeps v
+plain-keeps s (PoolReports pools) v = reports-keep s pools (are_few pools)
+plain-keeps s EngineStateReport v = engine-keeps s
+plain-keeps s PowerCycle v = cycle-keeps s
+plain-keeps s (AddDataDevs pool devices) v = tt
+plain-keeps s (InitCache pool devices) v = tt
+plain-keeps s (AddCacheDevs pool devices) v = tt
+plain-keeps s (DestroyFilesystems pool names) v = tt
+plain-keeps s (SnapshotFilesystem pool origin name) v = tt
+plain-keeps s (FsWrite pool name sector payload) v = tt
+plain-keeps s (FsRead pool name sector sectors) v = tt
+plain-keeps s (Check pool) v = tt
+
+-- what a call answers, but for a failed write and a pool that vanished
+abbrev KeepsBut : EngineState → Reply × EngineState → Type 0
+KeepsBut s after = (after.0.code == 0) ≡ false → (after.0.code == 27) ≡ false → (after.0.code == 15) ≡ false → after.1 ≡ s
+
+answered : (s : EngineState) (o : Outcome) → KeepsIfAny s o → KeepsBut s (unwrap_or o (refused OutOfMemory, s))
+answered s None k h f g = refl
+answered s (Some after) k h f g = k h
+
+abbrev KeepsButIfAny : EngineState → Outcome → Type 0
+KeepsButIfAny s None = Unit {0}
+KeepsButIfAny s (Some after) = KeepsBut s after
+
+answered_but : (s : EngineState) (o : Outcome) → KeepsButIfAny s o → KeepsBut s (unwrap_or o (refused OutOfMemory, s))
+answered_but s None k h f g = refl
+answered_but s (Some after) k h f g = k h f g
+
+-- a fault leaves the state, or is a write that failed
+where_fault : (s t : EngineState) (b : Bool) → KeepsButIfAny s (where_so b (refused DeviceFault, t))
+where_fault s t true = λ h f g. absurd cc
+where_fault s t false = tt
+
+on_fault : (s : EngineState) (o : Option (Text × Call)) (b : Bool) → KeepsButIfAny s (fault_on s o b)
+on_fault s None b = tt
+on_fault s (Some flight) b = where_fault s _ b
+
+usual-keeps : (s : EngineState) (call : Call) (env : Env) → IsValid s → KeepsBut s (unwrap_or (usual s call env) (refused OutOfMemory, s))
+usual-keeps s call Plain v = answered s (plain s call) (plain-keeps s call v)
+usual-keeps s call NoMem v = λ h f g. refl
+usual-keeps s call FaultRead v = answered_but s (usual s call FaultRead) (where_fault s s (is_ok (plain s call) && touches s call))
+usual-keeps s call FaultWrite v = answered_but s (usual s call FaultWrite) (on_fault s (in_flight s call) (wrote s call))
+usual-keeps s call After v = λ h f g. refl
+usual-keeps s call (Before bytes) v = λ h f g. refl
+
+-- what a start finds is accepted, or the pool vanished
+abbrev IsFoundSo : Reply × EngineState → Type 0
+IsFoundSo after = ((after.0.code == 0) ≡ false → (after.0.code == 15) ≡ false → ⊥)
+
+so-keeps : (s : EngineState) (b : Bool) (after : Reply × EngineState) → IsFoundSo after → KeepsButIfAny s (where_so b after)
+so-keeps s true after k = λ h f g. absurd (k h g)
+so-keeps s false after k = tt
+
+taken : (s : EngineState) (p : PoolState) (o : Option PoolState) → IsFoundSo (taken_over s p o)
+taken s p None h g = absurd cc
+taken s p (Some q) h g = absurd cc
+
+after-keeps : (s : EngineState) (p : PoolState) (before : EngineState) (o : Outcome) → KeepsButIfAny s (found_after_of s p before o)
+after-keeps s p before None = tt
+after-keeps s p before (Some answered) = so-keeps s _ (taken_over s p (with_own_serial p.serial answered.1)) (taken s p (with_own_serial p.serial answered.1))
+
+before-keeps : (s : EngineState) (p : PoolState) (call : Call) (bytes : List ℕ) → KeepsButIfAny s (found_before s p call bytes)
+before-keeps s p (CreatePool name devices) bytes = so-keeps s _ _ (taken s p None)
+before-keeps s p _ bytes = so-keeps s _ _ (taken s p (Some p))
+
+found-keeps : (s : EngineState) (f : PoolState → Call → Outcome) → ((p : PoolState) (call : Call) → KeepsButIfAny s (f p call)) → (o : Option PoolState) → KeepsButIfAny s (found f o)
+found-keeps s f h None = tt
+found-keeps s f h (Some p) = here (unsettled_in p.mode)
+  where
+    here : (o : Option Call) → KeepsButIfAny s (on_flight p f o)
+    here None = tt
+    here (Some call) = h p call
+
+pub refusals-keep : RefusalsKeep
+refusals-keep s (CreatePool name devices) Plain v = usual-keeps s (CreatePool name devices) Plain v
+refusals-keep s (CreatePool name devices) NoMem v = usual-keeps s (CreatePool name devices) NoMem v
+refusals-keep s (CreatePool name devices) FaultRead v = usual-keeps s (CreatePool name devices) FaultRead v
+refusals-keep s (CreatePool name devices) FaultWrite v = answered_but s _ (where_fault s _ (wrote s (CreatePool name devices)))
+refusals-keep s (CreatePool name devices) After v = usual-keeps s (CreatePool name devices) After v
+refusals-keep s (CreatePool name devices) (Before bytes) v = usual-keeps s (CreatePool name devices) (Before bytes) v
+refusals-keep s (StartPool id) Plain v = usual-keeps s (StartPool id) Plain v
+refusals-keep s (StartPool id) NoMem v = usual-keeps s (StartPool id) NoMem v
+refusals-keep s (StartPool id) FaultRead v = answered_but s _ (where_fault s s (reaches (pool_meant id s)))
+refusals-keep s (StartPool id) FaultWrite v = answered_but s _ (where_fault s s (reaches (pool_meant id s)))
+refusals-keep s (StartPool id) After v = answered_but s _ (found-keeps s (found_after s) (λ p call. after-keeps s p (state_before s p call) (plain (state_before s p call) call)) (pool_meant id s))
+refusals-keep s (StartPool id) (Before bytes) v = answered_but s _ (found-keeps s (λ p call. found_before s p call bytes) (λ p call. before-keeps s p call bytes) (pool_meant id s))
+refusals-keep s (DestroyPool name) env v = usual-keeps s (DestroyPool name) env v
+refusals-keep s (StopPool name) env v = usual-keeps s (StopPool name) env v
+refusals-keep s (RenamePool name new) env v = usual-keeps s (RenamePool name new) env v
+refusals-keep s (AddDataDevs pool devices) env v = usual-keeps s (AddDataDevs pool devices) env v
+refusals-keep s (InitCache pool devices) env v = usual-keeps s (InitCache pool devices) env v
+refusals-keep s (AddCacheDevs pool devices) env v = usual-keeps s (AddCacheDevs pool devices) env v
+refusals-keep s (CreateFilesystems pool specs) env v = usual-keeps s (CreateFilesystems pool specs) env v
+refusals-keep s (DestroyFilesystems pool names) env v = usual-keeps s (DestroyFilesystems pool names) env v
+refusals-keep s (SnapshotFilesystem pool origin name) env v = usual-keeps s (SnapshotFilesystem pool origin name) env v
+refusals-keep s (RenameFilesystem pool name new) env v = usual-keeps s (RenameFilesystem pool name new) env v
+refusals-keep s (SetSizeLimit pool name limit) env v = usual-keeps s (SetSizeLimit pool name limit) env v
+refusals-keep s (SetFsLimit pool limit) env v = usual-keeps s (SetFsLimit pool limit) env v
+refusals-keep s (SetOverprovisioning pool value) env v = usual-keeps s (SetOverprovisioning pool value) env v
+refusals-keep s (FsWrite pool name sector payload) env v = usual-keeps s (FsWrite pool name sector payload) env v
+refusals-keep s (FsRead pool name sector sectors) env v = usual-keeps s (FsRead pool name sector sectors) env v
+refusals-keep s (Check pool) env v = usual-keeps s (Check pool) env v
+refusals-keep s (PoolReport pool) env v = usual-keeps s (PoolReport pool) env v
+refusals-keep s (PoolReports pools) env v = usual-keeps s (PoolReports pools) env v
+refusals-keep s EngineStateReport env v = usual-keeps s EngineStateReport env v
+refusals-keep s (SetMerge pool name value) env v = usual-keeps s (SetMerge pool name value) env v
+refusals-keep s PowerCycle env v = usual-keeps s PowerCycle env v
