@@ -12,7 +12,7 @@ use Rattle.st_model.specs.declared.state.PoolState.{PoolState}
 use Rattle.st_model.specs.declared.state.CacheState.{CacheState}
 use Rattle.st_rack.specs.Device.{Path, State, Image, held}
 use Rattle.st_rack.specs.Calls.{Devices}
-use Rattle.st_rack.specs.Left.{LeftOn}
+use Rattle.st_image.specs.Left.{first_sectors, LeftOf}
 use Rattle.st_image.specs.Looks.{look_of}
 use Rattle.st_image.specs.Bears.{newest_on, paths}
 use Rattle.st_image.specs.Stands.{Range, range_of, bytes_in, cell_rows, state_of, StandsFor}
@@ -43,13 +43,13 @@ merged_cooled mode pool = by pool.cache
     by (Some cache) = refl
 
 -- what a calm pool stands for
-pub calm_stands : (p : ℕ) (rows : Devices) (g : ℕ) (rec : PoolRec) (st : FlexState) (s : State) (c : Image) → Calm p rows g rec st s → LeftOn (paths rows) look_of s c → StandsFor p rows c (Some (merged (state_of g rec st (held s))))
+pub calm_stands : (p : ℕ) (rows : Devices) (g : ℕ) (rec : PoolRec) (st : FlexState) (s : State) (c : Image) → Calm p rows g rec st s → LeftOf p rows s c → StandsFor p rows c (Some (merged (state_of g rec st (held s))))
 calm_stands p rows g rec st s c calm leaves =
     let shown = calm.shows c leaves in
     inl (g, rec, st, record { bears = shown.bears; alive = calm.alive; places = by_rows (λ row. row.place < length (blocks_of rec.segments)) (cell_rows st.mappings) (λ k row is. (calm.places k row is).0) }, ap merged (sym same))
   where
     each : (q : Range) → Safe (paths rows) q s → bytes_in c q ≡ bytes_in (held s) q
-    each q safe = same_bytes q c (held s) (agrees_left (paths rows) [] [] q s s c safe.on (moved_self [] s) safe.sure (λ i low high off. refl) leaves)
+    each q safe = same_bytes q c (held s) (agrees_left (paths rows) (look_of p (first_sectors rows)) [] [] q s s c safe.on (moved_self [] s) safe.sure (λ i low high off. refl) leaves)
 
     same : state_of g rec st c ≡ state_of g rec st (held s)
     same = ap (λ (cs : List (ℕ × List ℕ)). record (state_of g rec st (held s)) { cells = cs }) (cells_alike rec c (held s) (cell_rows st.mappings) (λ k row is. each (range_of rec row.place) (calm.places k row is).1))
@@ -59,7 +59,7 @@ pub calm_kept : (pool : PoolState) (devs : Devices) (rec : PoolRec) (st : FlexSt
     → Calm pool.serial (map as_pair rec.devs) pool.commits rec st s → Kept pool devs s
 calm_kept pool devs rec st s up own is calm = record {
   all = λ c leaves. (
-      let here = subst (λ (ds : Devices). LeftOn (paths ds) look_of s c) rows_are leaves in
+      let here = subst (λ (ds : Devices). LeftOf pool.serial ds s c) rows_are leaves in
       let shown = calm.shows c here in
       record {
         found = Some (recorded pool);
@@ -103,7 +103,7 @@ survives_same call pool devs found one = elim one [
 stopped_from : (pool : PoolState) (devs : Devices) (s : State) (mode : PoolMode) → pool.mode ≡ mode → Kept pool devs s → Kept (halted_from pool mode) devs s
 stopped_from pool devs s Up up kept = record {
   all = λ c leaves. (
-      let one = kept.all c (subst (λ (m : PoolMode). LeftOn (paths (in_use (record pool { mode = m }) devs)) look_of s c) (sym up) leaves) in
+      let one = kept.all c (subst (λ (m : PoolMode). LeftOf pool.serial (in_use (record pool { mode = m }) devs) s c) (sym up) leaves) in
       let held_as : one.found ≡ Some (recorded pool) = subst (λ (m : PoolMode). IsKeptAs pool devs m one.found) up one.kept in
       record {
         found = one.found;
@@ -115,7 +115,7 @@ stopped_from pool devs s Up up kept = record {
 }
 stopped_from pool devs s (Down call) down kept = record {
   all = λ c leaves. (
-      let one = kept.all c (subst (λ (m : PoolMode). LeftOn (paths (in_use (record pool { mode = m }) devs)) look_of s c) (sym down) leaves) in
+      let one = kept.all c (subst (λ (m : PoolMode). LeftOf pool.serial (in_use (record pool { mode = m }) devs) s c) (sym down) leaves) in
       let held_as : Survives pool call devs one.found = subst (λ (m : PoolMode). IsKeptAs pool devs m one.found) down one.kept in
       record {
         found = one.found;

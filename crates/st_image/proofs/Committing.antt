@@ -1,5 +1,5 @@
 -- What commits leave shows in each image that a crash may leave.
-use Rattle.std.proofs.Common.{◌≡◌, ◌≢◌, ℕ, zero, suc, ◌<◌, ◌≤◌, Bool, true, false, ◌&&◌, leb, cond, nat_eq, nat_lt, List, [], ◌∷◌, length, map, Option, Some, None, refl, sym, ◌∙◌, ap, subst, arith}
+use Rattle.std.proofs.Common.{◌≡◌, ◌⊎◌, inl, inr, ◌≢◌, ℕ, zero, suc, ◌<◌, ◌≤◌, Bool, true, false, ◌&&◌, ◌||◌, leb, cond, nat_eq, nat_lt, List, [], ◌∷◌, length, map, Option, Some, None, refl, sym, ◌∙◌, ap, subst, arith}
 use Rattle.std.specs.List.{slice_get, AllByRecursion}
 use Rattle.std.proofs.lemmas.Bool.{and_parts, leb-true}
 use Rattle.std.proofs.lemmas.Bool.Decides.{nat_tests}
@@ -11,7 +11,7 @@ use Rattle.st_poolrec.specs.declared.record.PoolRec.{PoolRec}
 use Rattle.st_poolrec.specs.Record as pools
 use Rattle.st_poolrec.specs.Conditions.{most_filesystems, rows_fit}
 use Rattle.st_flexlog.specs.declared.state.FlexState.{FlexState}
-use Rattle.st_rack.specs.Story.{Content, NoChance}
+use Rattle.st_rack.specs.Story.{Content, Story, Began, Wrote, Settled, Meant, Fair, FairPast, NoChance, latest, put_in, unsettled, within}
 use Rattle.st_rack.specs.Device.{Path, DevState, State, Image, Leaves, cells}
 use Rattle.st_rack.specs.Left.{LeavesFairly, LeftOn}
 use Rattle.st_rack.specs.Calls.{Devices}
@@ -23,10 +23,11 @@ use Rattle.st_commit.specs.Standing as commits
 use Rattle.st_commit.specs.Standing.{keep, with_log, records, AreOne}
 use Rattle.st_commit.specs.Ready.{IsSound}
 use Rattle.st_commit.proofs.Roles.{slot_left, slots_left_on}
-use Rattle.st_commit.proofs.Steps.{certain, record_left}
+use Rattle.st_commit.proofs.Steps.{Sure, certain, record_left}
 use Rattle.st_commit.proofs.Whole.{based_sure}
-use Rattle.st_image.specs.Looks.{PoolSlot, Checkpoint, look_of, pool_area, flex_area}
-use Rattle.st_image.specs.Bears.{has_header, is_serial, candidate, newest_on, newest_over, AreRecords, HasRow, OnRowsAlone, first_of, path_in, paths}
+use Rattle.st_image.specs.Looks.{PoolSlot, Checkpoint, is_serial, has_header, look_of, pool_area, flex_area}
+use Rattle.st_image.specs.Left.{first_sectors, LeftOf}
+use Rattle.st_image.specs.Bears.{candidate, newest_on, newest_over, AreRecords, HasRow, OnRowsAlone, first_of, path_in, paths}
 use Rattle.st_image.specs.Kept.{NoneOrGone, as_pair}
 use Rattle.st_image.specs.Calm.{Shows}
 use Rattle.st_image.specs.Committed.{HasOwnHeader, IsRecord, Committed}
@@ -34,14 +35,70 @@ use Rattle.st_image.specs.Committed.{HasOwnHeader, IsRecord, Committed}
 not_zero : (k : ℕ) → nat_eq (suc k) 0 ≡ false
 not_zero k = grind (arith, nat_tests)
 
--- where a pool's readers find nothing by chance, a commit's don't
-commit_left : (list : List Path) (s : State) (c : Image) → LeftOn list look_of s c → LeftOn list (records pool_area flex_area) s c
-commit_left list s c leaves k d is = record { left = (leaves k d is).left; fair = λ i. by k i.0 i.1 (leaves k d is) }
+-- A story cut at the last settling: the same was meant since, and there is no past to speak of.
+abbrev cut : Story → Story
+cut (Began f) = Began f
+cut (Wrote at bytes story) = Wrote at bytes (cut story)
+cut (Settled f story) = Began f
+
+abbrev cut_state : State → State
+cut_state s d = record { holds = (s d).holds; story = cut (s d).story }
+
+latest_cut : (story : Story) → latest (cut story) ≡ latest story
+latest_cut (Began f) = refl
+latest_cut (Wrote at bytes story) = ap (put_in at bytes) (latest_cut story)
+latest_cut (Settled f story) = refl
+
+meant_cut : (story : Story) (m : Content) → Meant (cut story) m → Meant story m
+meant_cut (Began f) m meant = meant
+meant_cut (Wrote at bytes story) m (inl is) = inl (is ∙ ap (put_in at bytes) (latest_cut story))
+meant_cut (Wrote at bytes story) m (inr meant) = inr (meant_cut story m meant)
+meant_cut (Settled f story) m meant = meant
+
+cut_meant : (story : Story) (m : Content) → Meant story m → Meant (cut story) m
+cut_meant (Began f) m meant = meant
+cut_meant (Wrote at bytes story) m (inl is) = inl (is ∙ ap (put_in at bytes) (sym (latest_cut story)))
+cut_meant (Wrote at bytes story) m (inr meant) = inr (cut_meant story m meant)
+cut_meant (Settled f story) m meant = meant
+
+unsettled_cut : (story : Story) (i : ℕ) → unsettled (cut story) i ≡ unsettled story i
+unsettled_cut (Began f) i = refl
+unsettled_cut (Wrote at bytes story) i = ap (λ (b : Bool). within at (length bytes) i || b) (unsettled_cut story i)
+unsettled_cut (Settled f story) i = refl
+
+past_cut : (read : Content → Found) (story : Story) → FairPast read (cut story)
+past_cut read (Began f) = tt
+past_cut read (Wrote at bytes story) = past_cut read story
+past_cut read (Settled f story) = tt
+
+fair_cut : (read : Content → Found) (story : Story) (c : Content) → Fair read story c → Fair read (cut story) c
+fair_cut read story c fair = record {
+  found = elim fair.found [
+    | inl none ↦ inl none
+    | inr like ↦ inr (like.0, cut_meant story like.0 like.1, like.2)
+  ];
+}
+
+-- where a content is seen, what is found in it is fair by itself
+unseen : (a : Bool) (own : Content → Bool) (read : Content → Found) (story : Story) (c : Content) → own c ≡ true
+    → Fair (λ (f : Content). cond a (cond (own f) (read f) None) None) story c → Fair (λ (f : Content). cond a (read f) None) story c
+unseen a own read story c owns fair = record {
+  found = elim fair.found [
+    | inl none ↦ inl (sym here ∙ none)
+    | inr like ↦ by (own like.0) like.0 refl like.1 like.2
+  ];
+}
   where
-    by : (k : ℕ) (b : Bool) (r : ℕ) → LeavesFairly (look_of k) (s d) (c d) → NoChance (records pool_area flex_area k (b, r)) (s d).story (c d)
-    by k true r left = left.fair (PoolSlot r)
-    by zero false r left = left.fair (Checkpoint r)
-    by (suc k) false r left = subst (λ (b : Bool). NoChance (λ (f : Content). cond (b && nat_lt r 2) (checkpoint_in flex_area r f) None) (s d).story (c d)) (sym (not_zero k)) (left.fair (Checkpoint r))
+    here : cond a (cond (own c) (read c) None) None ≡ cond a (read c) None
+    here = ap (λ (b : Bool). cond a (cond b (read c) None) None) owns
+
+    nothing : (a : Bool) → cond {A = Found} a None None ≡ None
+    nothing true = refl
+    nothing false = refl
+
+    by : (b : Bool) (m : Content) → own m ≡ b → Meant story m → cond a (cond (own c) (read c) None) None ≡ cond a (cond (own m) (read m) None) None → (cond a (read c) None ≡ None) ⊎ ((n : Content) × Meant story n × (cond a (read c) None ≡ cond a (read n) None))
+    by true m e meant same = inr (m, meant, sym here ∙ same ∙ ap (λ (b : Bool). cond a (cond b (read m) None) None) e)
+    by false m e meant same = inl (sym here ∙ same ∙ ap (λ (b : Bool). cond a (cond b (read m) None) None) e ∙ nothing a)
 
 -- a place of a path
 path_at : (devs : Devices) (k : ℕ) (d : Path × ℕ) → slice_get devs k ≡ Some d → slice_get (paths devs) k ≡ Some d.0
@@ -118,7 +175,7 @@ module _ (p : ℕ) (c : Image) where
       let rest = newest_same ds (λ k e is. headers (suc k) e is) in
       λ i. newer (newer (cond (here i) (keep p (read_slot pool_area 0 (c d.0))) None) (cond (here i) (keep p (read_slot pool_area 1 (c d.0))) None)) (rest i)
 
-module _ (p : ℕ) (devs : Devices) (g : ℕ) (rec : PoolRec) (st : FlexState) (s : State) (c : Image) (pool : Committed p devs g rec st s) (leaves : LeftOn (paths devs) look_of s c) where
+module _ (p : ℕ) (devs : Devices) (g : ℕ) (rec : PoolRec) (st : FlexState) (s : State) (c : Image) (pool : Committed p devs g rec st s) (leaves : LeftOf p devs s c) where
   first_at : slice_get (paths devs) 0 ≡ Some (first_of rec)
   first_at = subst (λ (ds : Devices). slice_get (paths ds) 0 ≡ Some (first_of rec)) pool.rows (head_path rec.devs (some_device rec pool.is.valid))
 
@@ -128,9 +185,41 @@ module _ (p : ℕ) (devs : Devices) (g : ℕ) (rec : PoolRec) (st : FlexState) (
   header_at : (k : ℕ) (d : Path × ℕ) → slice_get devs k ≡ Some d → has_header p d.1 (c d.0) ≡ true
   header_at k d is = header_left p d.1 (s d.0) (c d.0) (pool.headers k d is) (leaves k d.0 (path_at devs k d is)).left
 
+  own_first : (ds : Devices) (d : Path) → slice_get (paths ds) 0 ≡ Some d → ((k : ℕ) (e : Path × ℕ) → slice_get ds k ≡ Some e → has_header p e.1 (c e.0) ≡ true) → has_header p (first_sectors ds) (c d) ≡ true
+  own_first [] d is headers = absurd (cc)
+  own_first (e ∷ ds) d is headers = let same : e.0 ≡ d = cc in subst (λ (q : Path). has_header p e.1 (c q) ≡ true) same (headers 0 e refl)
+
+  -- what is fairly left of the pool, as a commit's readers have it
+  commit_left : LeftOn (paths devs) (records pool_area flex_area) (cut_state s) c
+  commit_left k d is = record {
+    left = λ i sure. (leaves k d is).left i (sym (unsettled_cut (s d).story i) ∙ sure);
+    fair = λ i. by k i.0 i.1 is (leaves k d is);
+  }
+    where
+      by : (k : ℕ) (b : Bool) (r : ℕ) → slice_get (paths devs) k ≡ Some d → LeavesFairly (look_of p (first_sectors devs) k) (s d) (c d) → NoChance (records pool_area flex_area k (b, r)) (cut (s d).story) (c d)
+      by k true r at left = record { now = fair_cut (records pool_area flex_area k (true, r)) (s d).story (c d) (left.fair (PoolSlot r)).now; past = past_cut (records pool_area flex_area k (true, r)) (s d).story }
+      by zero false r at left = record {
+        now = fair_cut (records pool_area flex_area 0 (false, r)) (s d).story (c d)
+            (unseen (nat_lt r 2) (has_header p (first_sectors devs)) (checkpoint_in flex_area r) (s d).story (c d) (own_first devs d at header_at) (left.fair (Checkpoint r)).now);
+        past = past_cut (records pool_area flex_area 0 (false, r)) (s d).story;
+      }
+      by (suc k) false r at left = record {
+        now = record { found = inl (ap (λ (b : Bool). cond (b && nat_lt r 2) (checkpoint_in flex_area r (c d)) None) (not_zero k)) };
+        past = past_cut (records pool_area flex_area (suc k) (false, r)) (s d).story;
+      }
+
+  first_sure : Sure pool_area flex_area p g (pool.h g) (Some pool.log) (cut_state s (first_of rec))
+  first_sure =
+      let base = based_sure pool_area flex_area p pool.up g (pool.h g) (Some pool.log) (s (first_of rec)) pool.ready.base in
+      let story = (s (first_of rec)).story in (
+        record { sure = λ i low high. unsettled_cut story i ∙ base.0.sure i low high; reads = base.0.reads },
+        record { holds = base.1.holds; sure = λ i low high. unsettled_cut story i ∙ base.1.sure i low high; upto = base.1.upto; beside = λ m meant. base.1.beside m (meant_cut story m meant) },
+        base.2,
+      )
+
   shown : AreOne pool_area p (paths devs) c × (commits.stands pool_area flex_area p (paths devs) (first_of rec) c ≡ commits.standing_of g (pool.h g) (Some pool.log))
-  shown = certain pool_area flex_area p pool.h (paths devs) (first_of rec) g first_at sound s (Some pool.log)
-      (based_sure pool_area flex_area p pool.up g (pool.h g) (Some pool.log) (s (first_of rec)) pool.ready.base) pool.ready.slots c (commit_left (paths devs) s c leaves)
+  shown = certain pool_area flex_area p pool.h (paths devs) (first_of rec) g first_at sound (cut_state s) (Some pool.log)
+      first_sure (λ d of r lt m meant. pool.ready.slots d of r lt m (meant_cut (s d).story m meant)) c commit_left
 
   tells : Told p g (pool.h g) pool.log (c (first_of rec)) (commits.newest_over pool_area p (paths devs) c)
   tells = told p g (pool.h g) pool.log (c (first_of rec)) (commits.newest_over pool_area p (paths devs) c) shown.1
@@ -141,8 +230,8 @@ module _ (p : ℕ) (devs : Devices) (g : ℕ) (rec : PoolRec) (st : FlexState) (
   each_record : (k : ℕ) (d : Path × ℕ) → slice_get devs k ≡ Some d → (r : ℕ) → r < 2 → IsRecord p (read_slot pool_area r (c d.0))
   each_record k d is r lt =
       let at = path_at devs k d is in
-      found_in (read_slot pool_area r) (IsRecord p) (s d.0).story (c d.0) (λ x e. absurd (cc)) (pool.records d.0 (record { index = k; is = at }) r lt)
-      ((slot_left pool_area (s d.0) (c d.0) (slots_left_on pool_area flex_area (paths devs) s c (commit_left (paths devs) s c leaves) k d.0 at) r lt).fair tt).now
+      found_in (read_slot pool_area r) (IsRecord p) (cut (s d.0).story) (c d.0) (λ x e. absurd (cc)) (λ m meant. pool.records d.0 (record { index = k; is = at }) r lt m (meant_cut (s d.0).story m meant))
+      ((slot_left pool_area (cut_state s d.0) (c d.0) (slots_left_on pool_area flex_area (paths devs) (cut_state s) c commit_left k d.0 at) r lt).fair tt).now
 
   are_records : AreRecords p devs c
   are_records = record {

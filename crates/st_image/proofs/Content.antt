@@ -10,16 +10,18 @@ use Rattle.st_rack.proofs.Cells.{cells_same, cells-add, length-cells}
 use Rattle.st_poolrec.specs.declared.record.PoolRec.{PoolRec}
 use Rattle.st_flexrec.specs.declared.rows.CellRow.{CellRow}
 use Rattle.st_rack.specs.Left.{LeftOn}
-use Rattle.st_image.specs.Looks.{look_of}
+use Rattle.st_fields.specs.Slot.{Found}
+use Rattle.st_rack.specs.Story.{Content}
+use Rattle.st_image.specs.Looks.{Look}
 use Rattle.st_image.specs.Calm.{IsOf}
 use Rattle.st_image.specs.Stands.{Range, range_of, bytes_in, cells_of}
 use Rattle.st_image.specs.Frame.{covers, Moved, AgreesOn, SureOn}
 use Rattle.st_image.specs.Survivors.{put_cell}
 
 -- A range that was sure at the start is left as it was, but where something was written that is loose.
-pub agrees_left : (devs : List Path) (w loose : List Range) (q : Range) (a s : State) (c : Image) → IsOf devs q.0 → Moved w a s → SureOn q a
-    → ((i : ℕ) → q.1 ≤ i → i < q.1 + q.2 → covers loose q.0 i ≡ false → covers w q.0 i ≡ false) → LeftOn devs look_of s c → AgreesOn q loose c (held a)
-agrees_left devs w loose q a s c on moved sure inside leaves i low high off =
+pub agrees_left : (devs : List Path) (read : ℕ → Look → Content → Found) (w loose : List Range) (q : Range) (a s : State) (c : Image) → IsOf devs q.0 → Moved w a s → SureOn q a
+    → ((i : ℕ) → q.1 ≤ i → i < q.1 + q.2 → covers loose q.0 i ≡ false → covers w q.0 i ≡ false) → LeftOn devs read s c → AgreesOn q loose c (held a)
+agrees_left devs read w loose q a s c on moved sure inside leaves i low high off =
     let out = inside i low high off in
     (leaves on.index q.0 on.is).left i (moved.sure q.0 i out (sure i low high)) ∙ moved.same q.0 i out
 

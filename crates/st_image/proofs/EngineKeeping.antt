@@ -28,10 +28,10 @@ module _ (e : EngineState) (devs : Devices) (s t : State) (kept : EngineKept e d
     free = λ d n has unused f leaves. kept.free d n has unused f (before d f leaves);
   }
     where
-      before : (d : Path) (f : Content) → LeavesFairly (look_of 1) (t d) f → LeavesFairly (look_of 1) (s d) f
+      before : (d : Path) (f : Content) → LeavesFairly (look_of 0 0 1) (t d) f → LeavesFairly (look_of 0 0 1) (s d) f
       before d f leaves = elim (same_or_other d dev) [
-        | inl is ↦ subst (λ (q : Path). LeavesFairly (look_of 1) (s q) f) (sym is) (left_settled (look_of 1) (s dev) (t dev) f step.here (subst (λ (q : Path). LeavesFairly (look_of 1) (t q) f) is leaves))
-        | inr ne ↦ subst (λ (x : DevState). LeavesFairly (look_of 1) x f) (step.others d ne) leaves
+        | inl is ↦ subst (λ (q : Path). LeavesFairly (look_of 0 0 1) (s q) f) (sym is) (left_settled (look_of 0 0 1) (s dev) (t dev) f step.here (subst (λ (q : Path). LeavesFairly (look_of 0 0 1) (t q) f) is leaves))
+        | inr ne ↦ subst (λ (x : DevState). LeavesFairly (look_of 0 0 1) x f) (step.others d ne) leaves
       ]
 
   -- all that a pool uses is in the rack
@@ -39,7 +39,7 @@ module _ (e : EngineState) (devs : Devices) (s t : State) (kept : EngineKept e d
   engine_cut there cut = record {
     devices = kept.devices;
     pools = both e.pools kept.pools there;
-    free = λ d n has unused f leaves. kept.free d n has unused f (left_cut (look_of 1) (s d) (t d) f (cut.here d n has) leaves);
+    free = λ d n has unused f leaves. kept.free d n has unused f (left_cut (look_of 0 0 1) (s d) (t d) f (cut.here d n has) leaves);
   }
     where
       both : (pools : List PoolState) → AllByRecursion (λ (pool : PoolState). Kept pool devs s) pools

@@ -1,9 +1,8 @@
 -- Which records the devices of one pool bear.
-use Rattle.std.specs.Prelude.{◌≡◌, ◌≢◌, ℕ, ◌<◌, Bool, true, false, nat_eq, List, [], ◌∷◌, map, Option, Some, None, slice_get, if◌then◌else◌}
+use Rattle.std.specs.Prelude.{◌≡◌, ◌≢◌, ℕ, ◌<◌, true, List, [], ◌∷◌, map, Option, Some, None, slice_get, if◌then◌else◌}
 use Rattle.std.specs.List.{AllByRecursion}
 use Rattle.st_units.specs.declared.rows.DevRow.{DevRow}
 use Rattle.st_fields.specs.Slot.{Found}
-use Rattle.st_header.specs.Header.{header_of}
 use Rattle.st_poolrec.specs.declared.record.PoolRec.{PoolRec}
 use Rattle.st_poolrec.specs.Record as pools
 use Rattle.st_flexlog.specs.declared.state.FlexState.{FlexState}
@@ -11,17 +10,9 @@ use Rattle.st_flexlog.specs.Said.{Says}
 use Rattle.st_deltalog.specs.Log.{Log, log_at}
 use Rattle.st_commit.specs.Standing.{keep}
 use Rattle.st_rack.specs.Story.{Content}
-use Rattle.st_rack.specs.Device.{Path, Image, cells}
+use Rattle.st_rack.specs.Device.{Path, Image}
 use Rattle.st_slots.specs.Reading.{read_slot, newer}
-use Rattle.st_image.specs.Looks.{pool_area, flex_area}
-
-abbrev pub is_serial : ℕ → Option ℕ → Bool
-is_serial p None = false
-is_serial p (Some n) = nat_eq n p
-
--- the header of a device of so many sectors is for this pool
-abbrev pub has_header : ℕ → ℕ → Content → Bool
-has_header p sectors f = is_serial p (header_of sectors (cells f 0 8192))
+use Rattle.st_image.specs.Looks.{pool_area, flex_area, has_header}
 
 -- a candidate: the slot in a place, on a device with a header for this pool
 abbrev pub candidate : ℕ → ℕ → ℕ → Content → Found

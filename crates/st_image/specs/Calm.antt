@@ -8,8 +8,8 @@ use Rattle.st_seg.specs.Blocks.{blocks_of}
 use Rattle.st_slots.specs.Reading.{read_slot}
 use Rattle.st_rack.specs.Device.{Path, State, Image}
 use Rattle.st_rack.specs.Calls.{Devices}
-use Rattle.st_rack.specs.Left.{LeftOn}
-use Rattle.st_image.specs.Looks.{pool_area, look_of, is_first, records_end}
+use Rattle.st_image.specs.Left.{LeftOf}
+use Rattle.st_image.specs.Looks.{pool_area, is_first, records_end}
 use Rattle.st_image.specs.Bears.{BearsWhole, newest_on, paths}
 use Rattle.st_image.specs.Stands.{Range, range_of, cell_rows}
 use Rattle.st_image.specs.Frame.{SureOn}
@@ -38,6 +38,6 @@ pub record Safe (devs : List Path) (q : Range) (s : State) : Type 0 where
 
 -- A pool that is up: each image that a crash now may leave shows its records, and its cells are safe.
 pub record Calm (p : ℕ) (devs : Devices) (g : ℕ) (rec : PoolRec) (st : FlexState) (s : State) : Type 0 where
-  pub shows : (c : Image) → LeftOn (paths devs) look_of s c → Shows p devs g rec st c
+  pub shows : (c : Image) → LeftOf p devs s c → Shows p devs g rec st c
   pub alive : rec.gone ≡ false
   pub places : (k : ℕ) (row : CellRow) → slice_get (cell_rows st.mappings) k ≡ Some row → (row.place < length (blocks_of rec.segments)) × Safe (paths devs) (range_of rec row.place) s

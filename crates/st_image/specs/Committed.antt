@@ -12,8 +12,8 @@ use Rattle.st_rack.specs.Device.{Path}
 use Rattle.st_deltalog.specs.Log.{Log}
 use Rattle.st_commit.specs.Standing.{keep}
 use Rattle.st_commit.specs.Ready.{AllSlots, BearsRecord, Ready}
-use Rattle.st_image.specs.Looks.{pool_area, flex_area}
-use Rattle.st_image.specs.Bears.{has_header, SpellsPool, first_of, paths}
+use Rattle.st_image.specs.Looks.{pool_area, flex_area, has_header}
+use Rattle.st_image.specs.Bears.{SpellsPool, first_of, paths}
 use Rattle.st_image.specs.Kept.{as_pair}
 
 -- The header of a device of so many sectors is for this pool, and no crash takes it away.

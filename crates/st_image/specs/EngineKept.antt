@@ -15,7 +15,7 @@ use Rattle.st_image.specs.Survivors.{row_of}
 
 -- Whatever a crash now may leave on a device of so many sectors, by itself it stands for no pool.
 abbrev pub StandsForNone : ℕ → DevState → Type 0
-StandsForNone sectors s = (f : Content) → LeavesFairly (look_of 1) s f → (q : ℕ) → NoneOrGone (newest_on q sectors f)
+StandsForNone sectors s = (f : Content) → LeavesFairly (look_of 0 0 1) s f → (q : ℕ) → NoneOrGone (newest_on q sectors f)
 
 -- The devices keep each pool, and each free one stands for no pool.
 pub record EngineKept (e : EngineState) (devs : Devices) (s : State) : Type 0 where

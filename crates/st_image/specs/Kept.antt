@@ -12,9 +12,9 @@ use Rattle.st_fields.specs.Slot.{Found}
 use Rattle.st_slots.specs.Reading.{read_slot}
 use Rattle.st_rack.specs.Device.{Path, State, Image}
 use Rattle.st_rack.specs.Calls.{Devices, sectors_of}
-use Rattle.st_rack.specs.Left.{LeftOn}
-use Rattle.st_image.specs.Looks.{pool_area, look_of}
-use Rattle.st_image.specs.Bears.{newest_on, SpellsPool, paths}
+use Rattle.st_image.specs.Looks.{pool_area}
+use Rattle.st_image.specs.Bears.{newest_on, SpellsPool}
+use Rattle.st_image.specs.Left.{LeftOf}
 use Rattle.st_image.specs.Stands.{StandsFor}
 use Rattle.st_image.specs.Survivors.{recorded, Survives}
 
@@ -54,4 +54,4 @@ pub record KeptIn (pool : PoolState) (devs : Devices) (c : Image) : Type 0 where
 
 -- The pool's devices keep its state: so it is of each image that a crash now may leave. The rack's devices are `devs`.
 pub record Kept (pool : PoolState) (devs : Devices) (s : State) : Type 0 where
-  pub all : (c : Image) → LeftOn (paths (in_use pool devs)) look_of s c → KeptIn pool devs c
+  pub all : (c : Image) → LeftOf pool.serial (in_use pool devs) s c → KeptIn pool devs c

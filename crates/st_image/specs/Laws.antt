@@ -17,9 +17,8 @@ use Rattle.st_model.specs.Checks.{cooled, halted}
 use Rattle.st_model.specs.Merged.{merged}
 use Rattle.st_rack.specs.Device.{Path, State, Image, Settling, held}
 use Rattle.st_rack.specs.Calls.{Devices, Has}
-use Rattle.st_rack.specs.Left.{LeftOn}
 use Rattle.st_rack.specs.Moments.{OnDevice, AllCut}
-use Rattle.st_image.specs.Looks.{look_of}
+use Rattle.st_image.specs.Left.{LeftOf}
 use Rattle.st_image.specs.Bears.{paths}
 use Rattle.st_image.specs.Stands.{Range, range_of, cells_of, state_of, StandsFor}
 use Rattle.st_image.specs.Survivors.{Piece, put_pieces, IsBefore, after, Survives}
@@ -46,11 +45,11 @@ NotForeign = (devs : Devices) (c : Image) (s : EngineState) → RackStands devs 
 
 -- What a crash leaves of a pool that is up stands for its merge, with the cells as reads give them.
 abbrev pub UpStands : Type 0
-UpStands = (p : ℕ) (devs : Devices) (g : ℕ) (rec : PoolRec) (st : FlexState) (s : State) (c : Image) → Calm p devs g rec st s → LeftOn (paths devs) look_of s c → StandsFor p devs c (Some (merged (state_of g rec st (held s))))
+UpStands = (p : ℕ) (devs : Devices) (g : ℕ) (rec : PoolRec) (st : FlexState) (s : State) (c : Image) → Calm p devs g rec st s → LeftOf p devs s c → StandsFor p devs c (Some (merged (state_of g rec st (held s))))
 
 -- What commits leave shows in whatever a crash leaves.
 abbrev pub CommittedShows : Type 0
-CommittedShows = (p : ℕ) (devs : Devices) (g : ℕ) (rec : PoolRec) (st : FlexState) (s : State) (c : Image) → Committed p devs g rec st s → LeftOn (paths devs) look_of s c → Shows p devs g rec st c
+CommittedShows = (p : ℕ) (devs : Devices) (g : ℕ) (rec : PoolRec) (st : FlexState) (s : State) (c : Image) → Committed p devs g rec st s → LeftOf p devs s c → Shows p devs g rec st c
 
 -- An image that agrees with another but for some pieces of cells has its cells, with the bytes that it has itself in these pieces.
 abbrev pub CellsWithPieces : Type 0

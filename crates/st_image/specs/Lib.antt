@@ -1,5 +1,6 @@
 pub mod Looks
 pub mod Bears
+pub mod Left
 pub mod Stands
 pub mod Survivors
 pub mod Frame

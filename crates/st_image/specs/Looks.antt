@@ -2,7 +2,7 @@
 use Rattle.std.specs.Prelude.{ℕ, zero, suc, ◌+◌, ◌*◌, Bool, true, false, ◌&&◌, ◌||◌, nat_lt, nat_eq, [], ◌∷◌, Option, Some, None, if◌then◌else◌}
 use Rattle.st_limits.specs.declared.TheConstants.{SECTOR_BYTES, BLOCK_SECTORS, RESERVED_SECTORS, FLEX_BLOCKS}
 use Rattle.st_fields.specs.Slot.{Found}
-use Rattle.st_header.specs.Header.{copy_of}
+use Rattle.st_header.specs.Header.{copy_of, header_of}
 use Rattle.st_rack.specs.Story.{Content}
 use Rattle.st_rack.specs.Device.{cells}
 use Rattle.st_slots.specs.Reading.{read_slot}
@@ -47,9 +47,24 @@ looked_at first (PoolSlot r) = nat_lt r 2
 looked_at first (Copy sectors k) = nat_eq k 1 || nat_eq k 9
 looked_at first (Checkpoint r) = first && nat_lt r 2
 
--- the readers of a pool's devices, each device in the role that its place among them gives it
-abbrev pub look_of : ℕ → Look → Content → Found
-look_of k l f = if looked_at (is_first k) l then looks l f else None
+abbrev pub is_serial : ℕ → Option ℕ → Bool
+is_serial p None = false
+is_serial p (Some n) = nat_eq n p
+
+-- the header of a device of so many sectors is for this pool
+abbrev pub has_header : ℕ → ℕ → Content → Bool
+has_header p sectors f = is_serial p (header_of sectors (cells f 0 8192))
+
+-- What a pool sees there on a device of so many sectors. Where the header isn't the pool's it sees no checkpoint: there may have been
+-- another pool's data, and whatever a user wrote then tells nothing of this pool's log.
+abbrev pub seen : ℕ → ℕ → Look → Content → Found
+seen p sectors (PoolSlot r) f = looks (PoolSlot r) f
+seen p sectors (Copy n k) f = looks (Copy n k) f
+seen p sectors (Checkpoint r) f = if has_header p sectors f then looks (Checkpoint r) f else None
+
+-- the readers of a pool's devices, each device in the role that its place among them gives it; the first has so many sectors
+abbrev pub look_of : ℕ → ℕ → ℕ → Look → Content → Found
+look_of p sectors k l f = if looked_at (is_first k) l then seen p sectors l f else None
 
 -- where the records of a device end, and its blocks for data begin
 abbrev pub records_end : Bool → ℕ
