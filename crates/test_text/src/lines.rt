@@ -2,7 +2,6 @@ use anyhow::Result;
 use st_lines::{
     Failed, Limit, Lines, MemorySink, MemorySource, ReadStop, Reading, Writing, put_all, read_lines,
 };
-use st_words::{RunMode, Words, WordsFault, read_words};
 use std::alloc::Global;
 use std::io::Cursor;
 
@@ -51,17 +50,46 @@ fn a_fault_is_no_end_of_the_input(rt: HostRuntime) -> Result<()> {
     Ok(())
 }
 
+/// So many lines of so many bytes, each with its LF, and then a line of `last` bytes without one.
+fn lines_of(alloc: Global, lines: usize, len: usize, last: usize) -> Result<Vec<u8>> {
+    let mut line = vec![in alloc; b'x'; len]?;
+    line.push(b'\n')?;
+    let mut input = Vec::with_capacity(alloc, lines * (len + 1) + last)?;
+    for _ in 0..lines {
+        input.extend_from_slice(&line)?;
+    }
+    input.extend_from_slice(&vec![in alloc; b'x'; last]?)?;
+    Ok(input)
+}
+
 #[test]
-fn a_byte_after_64_mib_is_too_many(rt: HostRuntime) -> Result<()> {
+fn the_first_limit_in_byte_order_is_told(rt: HostRuntime) -> Result<()> {
     let alloc = rt.alloc();
-    for (len, want) in [
-        (67_108_864, None),
-        (67_108_865, Some(ReadStop::Limit(Limit::Bytes))),
+    for (lines, len, last, want) in [
+        (0, 0, 16_384, None),
+        (0, 0, 16_385, Some(Limit::Line(1))),
+        (2, 16_384, 16_385, Some(Limit::Line(3))),
+        (65_536, 0, 0, None),
+        (65_536, 0, 1, Some(Limit::Lines)),
+        (65_536, 0, 16_385, Some(Limit::Lines)),
+        (65_535, 0, 16_385, Some(Limit::Line(65_536))),
+        (65_536, 1_023, 0, None),
+        (65_536, 1_023, 1, Some(Limit::Lines)),
+        (4_096, 16_383, 0, None),
+        (4_096, 16_383, 1, Some(Limit::Bytes)),
+        (4_095, 16_383, 16_384, None),
+        (4_095, 16_383, 16_385, Some(Limit::Line(4_096))),
+        (4_096, 16_384, 0, Some(Limit::Bytes)),
+        (4_096, 16_384, 16_385, Some(Limit::Bytes)),
     ] {
-        let bytes = vec![in alloc; b'x'; len]?;
-        let mut source = MemorySource::new(bytes, 65_536, Vec::new(alloc));
+        let input = lines_of(alloc, lines, len, last)?;
+        let mut source = MemorySource::new(input, 65_536, Vec::new(alloc));
         let stop = read_lines(alloc, &mut source).err();
-        assert_eq!(rt; stop, want, "at {len} bytes");
+        assert_eq!(rt;
+            stop,
+            want.map(ReadStop::Limit),
+            "at {lines} of {len}, then {last}"
+        );
     }
     Ok(())
 }
@@ -100,35 +128,5 @@ fn readers_and_writers_serve(rt: HostRuntime) -> Result<()> {
     let mut sink = Writing::new(Cursor::new([0u8; 3]));
     assert_eq!(rt; put_all(&mut sink, b"abc"), Ok(()));
     assert_eq!(rt; put_all(&mut sink, b"d"), Err(Failed));
-    Ok(())
-}
-
-#[test]
-fn words_are_run_with_the_trace_or_without(rt: HostRuntime) -> Result<()> {
-    let alloc = rt.alloc();
-    for (words, want) in [
-        ("run", Some(false)),
-        ("run --trace", Some(true)),
-        ("walk", None),
-        ("", None),
-        ("--trace run", None),
-        ("run --trace --trace", None),
-        ("run --lanes", None),
-    ] {
-        let mut list = Vec::new(alloc);
-        for word in words.split_whitespace() {
-            list.push(String::from_str(alloc, word)?)?;
-        }
-        let want = want
-            .map(|trace| Words {
-                mode: RunMode::Run,
-                lanes: 1,
-                trace,
-                recover: false,
-                number: 0,
-            })
-            .ok_or(WordsFault::Usage);
-        assert_eq!(rt; read_words(alloc, &list), want, "at {words:?}");
-    }
     Ok(())
 }
