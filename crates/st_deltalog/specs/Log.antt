@@ -78,9 +78,13 @@ abbrev pub followed : FlexArea → ℕ → Content → Option Log → Option Log
 followed flex g f None = None
 followed flex g f (Some log) = with_deltas log (deltas_in flex log.slot (sectors_of log.body) log.start (g - log.start) f)
 
+-- the log that the checkpoint which is taken begins
+abbrev pub begun_in : FlexArea → ℕ → ℕ → Content → Option Log
+begun_in flex p g f = later (usable p g (checkpoint_in flex 0 f)) (usable p g (checkpoint_in flex 1 f))
+
 -- The log of serial p at generation g, if the device's content has one.
 unfoldable pub log_at : FlexArea → ℕ → ℕ → Content → Option Log
-log_at flex p g f = followed flex g f (later (usable p g (checkpoint_in flex 0 f)) (usable p g (checkpoint_in flex 1 f)))
+log_at flex p g f = followed flex g f (begun_in flex p g f)
 
 -- the log with one delta more
 abbrev pub grown : Log → List ℕ → Log

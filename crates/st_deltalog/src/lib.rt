@@ -8,5 +8,5 @@ mod write;
 
 pub use area::{FlexArea, Tail};
 pub use choice::may_follow;
-pub use find::{serial_of, tail_of};
+pub use find::{Begun, begun_at, sectors_of, serial_of};
 pub use write::{append, checkpoint};

@@ -1,5 +1,5 @@
 -- What the slots of a device read as.
-use Rattle.std.specs.Prelude.{◌≡◌, ◌≢◌, ℕ, ◌+◌, ◌*◌, ◌%◌, ◌^◌, ◌<◌, ◌≤◌, Bool, nat_lt, nat_eq, List, ◌++◌, take, drop, Some, None, if◌then◌else◌}
+use Rattle.std.specs.Prelude.{◌≡◌, ◌≢◌, ℕ, ◌+◌, ◌*◌, ◌%◌, ◌^◌, ◌<◌, ◌≤◌, Bool, nat_lt, nat_eq, List, ◌++◌, take, drop, Option, Some, None, if◌then◌else◌}
 use Rattle.std.specs.Str.{bytes_eq}
 use Rattle.st_fields.specs.Fields.{digest}
 use Rattle.st_fields.specs.Slot.{Found, slot_fields, sealed_of}
@@ -9,6 +9,7 @@ use Rattle.st_units.specs.Causes.{Rose}
 use Rattle.st_rack.specs.Calls.{Devices}
 use Rattle.st_slots.specs.Places.{place_at}
 use Rattle.st_slots.specs.declared.spot.Area.{Area}
+use Rattle.st_slots.specs.declared.head.Head.{Head}
 
 -- all bytes of the slot in a place
 abbrev pub bytes_at : Area → ℕ → Content → List ℕ
@@ -52,6 +53,11 @@ has_seal bytes count = bytes_eq (take 32 (drop 32 bytes)) (digest (take 32 bytes
 -- what a sound head and a body of so many bytes hold, where the seal is right
 abbrev pub sealed_in : List ℕ → ℕ → ℕ → Found
 sealed_in bytes generation count = if has_seal bytes count then Some (generation, take count (drop 64 bytes)) else None
+
+-- what a head found in the bytes of a text says
+abbrev pub found_in : List ℕ → Option Head → Found
+found_in bytes None = None
+found_in bytes (Some head) = Some (head.generation, take head.count (drop 64 bytes))
 
 -- A device of a rack was read, once at least, and nothing else.
 pub record IsRead {D : Type 0} (devs : D → Devices) (moment : D → ℕ) (state_at : D → ℕ → State) (spare : D → ℕ) (reads : D → Path → ℕ) (dev : Path) (old new : D) : Type 0 where

@@ -1,0 +1,2 @@
+pub mod FlexAt
+pub mod Replay
