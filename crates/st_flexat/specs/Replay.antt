@@ -4,7 +4,7 @@ use Rattle.st_fields.specs.Slot.{Found, sector_of}
 use Rattle.st_deltalog.specs.Log.{body_at, put_on}
 use Rattle.st_flexlog.specs.declared.state.FlexState.{FlexState}
 use Rattle.st_flexlog.specs.Applied.{applied_bytes}
-use Rattle.st_flexlog.specs.Said.{replayed}
+use Rattle.st_flexlog.specs.Said.{IsSaid, replayed}
 
 -- sector n of the bytes
 abbrev pub sector_in : ℕ → List ℕ → List ℕ
@@ -24,3 +24,9 @@ replay_of c (Some deltas) st = replayed c deltas st
 abbrev pub step_of : ℕ → Option (List ℕ) → FlexState → Option FlexState
 step_of generation None st = None
 step_of generation (Some body) st = applied_bytes generation body st
+
+-- What a checkpoint's body and the deltas behind it say, if these are all there.
+abbrev pub IsReplayed : ℕ → List ℕ → Option (List (List ℕ)) → Option FlexState → Type 0
+IsReplayed c body None None = Unit {0}
+IsReplayed c body None (Some st) = ⊥
+IsReplayed c body (Some deltas) after = IsSaid c body deltas after

@@ -1,18 +1,40 @@
 ghost use Rattle.std.specs.Prelude.{◌≡◌, ◌+◌, ◌*◌, ◌<◌, ◌≤◌, ◌^◌, ℕ, IfOk, length, take, drop};
 ghost use Rattle.st_fields.specs.Slot.{sector_of};
 ghost use Rattle.st_deltalog.specs.Log.{body_at};
-ghost use Rattle.st_flexat.specs.Replay.{sector_in, bodies_in, replay_of, step_of};
+ghost use Rattle.st_flexat.specs.Replay.{sector_in, bodies_in, replay_of, step_of, IsReplayed};
 
-use st_flexlog::{FlexState, follow};
+use st_deltalog::Begun;
+use st_flexlog::{FlexState, begin, follow};
 use st_slots::{HEAD, sealed_head};
 use st_units::NoMemory;
+use std::alloc::Global;
 
 const SECTOR: usize = 512;
+
+/// What a checkpoint and so many deltas behind it, in these sectors, say.
+///
+/// `None` exactly where one of the deltas isn't there or doesn't apply, or where the checkpoint is no record.
+pub fn state_after(
+    alloc: Global,
+    begun: &Begun,
+    sectors: &[u8],
+    count: u64,
+    magic: &[u8; 8],
+) -> Result<Option<FlexState>, NoMemory>
+    requires sectors { length sectors.now ≡ 512 * count }
+    requires last { begun.now.generation + count ≤ 2 ^ 48 }
+    ensures { IfOk result (IsReplayed begun.now.generation begun.now.body (bodies_in magic.now sectors.now begun.now.generation count)) }
+{
+    match begin(alloc, begun.body.items(), begun.generation)? {
+        None => Ok(None),
+        Some(state) => replay(state, begun.generation, sectors, count as usize, magic),
+    }
+}
 
 /// What the deltas in these sectors, of the generations after `start`, make of a state.
 ///
 /// `None` exactly where one of them isn't there or doesn't apply.
-pub fn replay(
+fn replay(
     state: FlexState,
     start: u64,
     sectors: &[u8],
