@@ -15,7 +15,7 @@ use Rattle.st_slots.specs.declared.spot.Area.{Area}
 use Rattle.st_deltalog.proofs.Bearing.{Off}
 use Rattle.st_commit.specs.Ready.{IsOf, Known, NoOther}
 use Rattle.st_commit.specs.inner.Spreading.{AllKnown}
-use Rattle.st_commit.proofs.Roles.{slot_left}
+use Rattle.st_commit.proofs.Roles.{slot_fair}
 use Rattle.st_commit.proofs.Steps.{slot_meant, slot_held}
 use Rattle.st_commit.proofs.Whole.{off_slot}
 
@@ -34,7 +34,7 @@ module _ (pool : Area) (devs : List Path) (G : ℕ) (rec : List ℕ) (start : St
 
   pub known_left : (s : State) → ((d : Path) → IsOf devs d → (r : ℕ) → r < 2 → AllMeant (read_slot pool r) (Known pool G rec r (start d)) (s d)) → NoOther pool devs G rec start s
   known_left s all c leaves d of r lt =
-      found_in (read_slot pool r) (Known pool G rec r (start d)) (s d).story (c d) (known_none r d) (all d of r lt) ((slot_left pool (s d) (c d) (leaves of.index d of.is) r lt).fair tt).now
+      found_in (read_slot pool r) (Known pool G rec r (start d)) (s d).story (c d) (known_none r d) (all d of r lt) (slot_fair pool (s d) (c d) (leaves of.index d of.is) r lt)
 
   module _ (dev : Path) (eight : length pool.magic ≡ 8) (some : 1 ≤ G) (until : G ≤ 2 ^ 48) (small : pool.slot ≤ 2 ^ 32) (fits : length (slot_bytes pool.magic G rec) ≤ 512 * pool.slot) (a s : State)
       (known : AllKnown pool devs G rec start a) where

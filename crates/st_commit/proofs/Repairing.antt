@@ -24,13 +24,13 @@ use Rattle.st_commit.specs.Repair.{Newest, NewestOnly, Mended, AllSure}
 use Rattle.st_commit.proofs.Over.{over_all, over_least, is_top, kept}
 use Rattle.st_commit.proofs.Steps.{slots_step, held_step, record_left, record_new, one_history}
 use Rattle.st_commit.proofs.Whole.{off_slot, slot_reads, log_far, off_area, turned}
-use Rattle.st_commit.proofs.Roles.{slot_left, checkpoint_left, slots_left_on}
+use Rattle.st_commit.proofs.Roles.{slot_fair, checkpoint_fair, slots_left_on}
 
 module _ (pool : Area) (p : ℕ) (h : ℕ → List ℕ) (devs : List Path) (bearer : Path) (g : ℕ) (rec : List ℕ) where
   -- where it stands on the bearer, it is the newest
   pub newest_certain : IsOf devs bearer → h g ≡ rec → serial_in rec ≡ p → (s : State) → BearsRecord pool g rec (s bearer) → AllSlots pool devs (Ranked p h g) s → NewestOnly pool p devs g rec s
   newest_certain of is serial s bears all c leaves =
-      let each = (λ (d : Path) (of_d : IsOf devs d) (r : ℕ) (lt : r < 2). found_in (read_slot pool r) (Ranked p h g) (s d).story (c d) (λ x e. absurd (cc)) (all d of_d r lt) ((slot_left pool (s d) (c d) (leaves of_d.index d of_d.is) r lt).fair tt).now) in
+      let each = (λ (d : Path) (of_d : IsOf devs d) (r : ℕ) (lt : r < 2). found_in (read_slot pool r) (Ranked p h g) (s d).story (c d) (λ x e. absurd (cc)) (all d of_d r lt) (slot_fair pool (s d) (c d) (leaves of_d.index d of_d.is) r lt)) in
       let there = over_least pool p c g devs bearer of.index (g % 2) of.is (omega arith) (record { one = (g, rec); is = kept p g rec (read_slot pool (g % 2) (c bearer)) (record_left pool g rec (s bearer) (c bearer) bears (leaves of.index bearer of.is).left) serial; from = omega arith }) in (
         one_history pool p h g devs c each,
         is_top h g (newest_over pool p devs c) (over_all pool p c (λ o. (x : ℕ × List ℕ) → o ≡ Some x → (x.0 ≤ g) × (h x.0 ≡ x.1)) devs (λ x e. absurd (cc)) each) there
@@ -116,7 +116,7 @@ only_of_both pool flex p up g rec log devs first s head sound newest rests c lea
     let both = newest c (slots_left_on pool flex devs s c leaves) in (
       both.0,
       ap (with_log flex p (c first)) both.1
-          ∙ ap (λ (l : Option Log). Some ((g, rec), l)) (log_left flex p up g log (s first) (c first) sound.eight sound.small rests.bears (checkpoint_left pool flex (s first) (c first) (leaves 0 first head) (other log.slot) (omega arith))),
+          ∙ ap (λ (l : Option Log). Some ((g, rec), l)) (log_left flex p up g log (s first) (c first) sound.eight sound.small rests.bears (leaves 0 first head).left (checkpoint_fair pool flex (s first) (c first) (leaves 0 first head) (other log.slot) (omega arith))),
     )
 
 -- After a repair the pool is ready.

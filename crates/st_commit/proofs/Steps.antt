@@ -9,7 +9,6 @@ use Rattle.st_fields.specs.Slot.{Found}
 use Rattle.st_fields.proofs.Slots.{sealed_of-is}
 use Rattle.st_rack.specs.Story.{Content}
 use Rattle.st_rack.specs.Device.{Path, DevState, State, Image, Leaves, cells}
-use Rattle.st_rack.specs.Left.{LeftOn}
 use Rattle.st_rack.specs.Moments.{OnDevice}
 use Rattle.st_rack.specs.Readers.{Local, AllMeant}
 use Rattle.st_rack.specs.Steps.{Changed, Rewriting, Rewritten}
@@ -25,9 +24,9 @@ use Rattle.st_deltalog.specs.Log.{Log, serial_in}
 use Rattle.st_deltalog.specs.Bearing.{Bears, other}
 use Rattle.st_deltalog.proofs.Bearing.{Off, log_left}
 use Rattle.st_rack.proofs.Written.{rewritten_sure}
-use Rattle.st_commit.specs.Standing.{keep, newest_over, with_log, stands, slots_in, records, standing_of, AreOne, OneOf, Only}
+use Rattle.st_commit.specs.Standing.{keep, newest_over, with_log, stands, slots_in, records, standing_of, AreOne, OneOf, Only, LeftNow}
 use Rattle.st_commit.specs.Ready.{IsOf, Ranked, AllSlots, HeldSlots, BearsRecord, IsSound, next}
-use Rattle.st_commit.proofs.Roles.{slot_left, checkpoint_left, slots_left_on}
+use Rattle.st_commit.proofs.Roles.{slot_fair, checkpoint_fair, slots_left_on}
 use Rattle.st_commit.proofs.Over.{AtLeast, over_all, over_least, is_top, kept}
 
 -- a slot's reader looks at the slot alone
@@ -88,8 +87,8 @@ pub record_new : (area : Area) (g at : ℕ) (bytes body : List ℕ) (a b : DevSt
 record_new area g at bytes body a b good step = record { sure = λ i low high. rewritten_sure at bytes a b step i; reads = good b.holds step.given }
 
 -- P of all that was meant holds of what is left
-pub slots_left : (pool : Area) (devs : List Path) (P : Found → Type 0) (s : State) (c : Image) → P None → AllSlots pool devs P s → LeftOn devs (λ k. slots_in pool) s c → (d : Path) → IsOf devs d → (r : ℕ) → r < 2 → P (read_slot pool r (c d))
-slots_left pool devs P s c none all leaves d of r lt = found_in (read_slot pool r) P (s d).story (c d) none (all d of r lt) ((slot_left pool (s d) (c d) (leaves of.index d of.is) r lt).fair tt).now
+pub slots_left : (pool : Area) (devs : List Path) (P : Found → Type 0) (s : State) (c : Image) → P None → AllSlots pool devs P s → LeftNow devs (λ k. slots_in pool) s c → (d : Path) → IsOf devs d → (r : ℕ) → r < 2 → P (read_slot pool r (c d))
+slots_left pool devs P s c none all leaves d of r lt = found_in (read_slot pool r) P (s d).story (c d) none (all d of r lt) (slot_fair pool (s d) (c d) (leaves of.index d of.is) r lt)
 
 -- what is kept was found, and has a generation from 1
 pub keep_is : (p : ℕ) (o : Found) (x : ℕ × List ℕ) → keep p o ≡ Some x → o ≡ Some x
@@ -147,14 +146,14 @@ module _ (pool : Area) (flex : FlexArea) (p : ℕ) (h : ℕ → List ℕ) (devs 
   with_newest : (o : Found) (c : Image) → newest_over pool p devs c ≡ o → stands pool flex p devs first c ≡ with_log flex p (c first) o
   with_newest o c is = ap (with_log flex p (c first)) is
 
-  log_there : (up k : ℕ) (rec : List ℕ) (log : Log) (c : Image) → Bears flex p up k log (s first) → LeftOn devs (records pool flex) s c → with_log flex p (c first) (Some (k, rec)) ≡ standing_of k rec (Some log)
-  log_there up k rec log c bears leaves = ap (λ (l : Option Log). Some ((k, rec), l)) (log_left flex p up k log (s first) (c first) sound.eight sound.small bears (checkpoint_left pool flex (s first) (c first) (leaves 0 first head) (other log.slot) (omega arith)))
+  log_there : (up k : ℕ) (rec : List ℕ) (log : Log) (c : Image) → Bears flex p up k log (s first) → LeftNow devs (records pool flex) s c → with_log flex p (c first) (Some (k, rec)) ≡ standing_of k rec (Some log)
+  log_there up k rec log c bears leaves = ap (λ (l : Option Log). Some ((k, rec), l)) (log_left flex p up k log (s first) (c first) sound.eight sound.small bears (leaves 0 first head).left (checkpoint_fair pool flex (s first) (c first) (leaves 0 first head) (other log.slot) (omega arith)))
 
   least : (rec : List ℕ) (c : Image) → BearsRecord pool g rec (s first) → serial_in rec ≡ p → Leaves (s first) (c first) → AtLeast g (newest_over pool p devs c)
   least rec c bears serial left = over_least pool p c g devs first 0 (g % 2) head (omega arith) (record { one = (g, rec); is = kept p g rec (read_slot pool (g % 2) (c first)) (record_left pool g rec (s first) (c first) bears left) serial; from = omega arith })
 
   -- the newest is of the history: then it is the old one
-  old_one : (old : Option Log) → Sure pool flex p g (h g) old (s first) → (c : Image) → LeftOn devs (records pool flex) s c → OfHistory h g (newest_over pool p devs c) → stands pool flex p devs first c ≡ standing_of g (h g) old
+  old_one : (old : Option Log) → Sure pool flex p g (h g) old (s first) → (c : Image) → LeftNow devs (records pool flex) s c → OfHistory h g (newest_over pool p devs c) → stands pool flex p devs first c ≡ standing_of g (h g) old
   old_one None sure c leaves each = with_newest None c (no_one (newest_over pool p devs c) each)
     where
       no_one : (o : Found) → OfHistory h g o → o ≡ None

@@ -3,7 +3,6 @@ use Rattle.std.specs.Prelude.{◌≡◌, ◌⊎◌, ℕ, ◌+◌, ◌*◌, ◌%�
 use Rattle.st_fields.specs.Slot.{Found}
 use Rattle.st_rack.specs.Story.{Content, Meant, Grows}
 use Rattle.st_rack.specs.Device.{Path, DevState, State, Image, Settling, pending}
-use Rattle.st_rack.specs.Left.{LeftOn}
 use Rattle.st_rack.specs.Readers.{AllMeant, SureIn}
 use Rattle.st_slots.specs.Places.{slot_at}
 use Rattle.st_slots.specs.Reading.{read_slot}
@@ -11,7 +10,7 @@ use Rattle.st_slots.specs.declared.spot.Area.{Area}
 use Rattle.st_deltalog.specs.declared.area.FlexArea.{FlexArea}
 use Rattle.st_deltalog.specs.Log.{Log, serial_in}
 use Rattle.st_deltalog.specs.Bearing.{Rests}
-use Rattle.st_commit.specs.Standing.{keep, slots_in}
+use Rattle.st_commit.specs.Standing.{keep, slots_in, LeftNow}
 
 -- a device of the list
 pub record IsOf (devs : List Path) (d : Path) : Type 0 where
@@ -108,4 +107,4 @@ Known pool g rec r start o = (x : ℕ × List ℕ) → o ≡ Some x → (x ≡ (
 
 -- No other record appears in a slot of the devices, whatever a crash leaves.
 abbrev pub NoOther : Area → List Path → ℕ → List ℕ → State → State → Type 0
-NoOther pool devs g rec start s = (c : Image) → LeftOn devs (λ k. slots_in pool) s c → (d : Path) → IsOf devs d → (r : ℕ) → r < 2 → Known pool g rec r (start d) (read_slot pool r (c d))
+NoOther pool devs g rec start s = (c : Image) → LeftNow devs (λ k. slots_in pool) s c → (d : Path) → IsOf devs d → (r : ℕ) → r < 2 → Known pool g rec r (start d) (read_slot pool r (c d))

@@ -2,7 +2,6 @@
 use Rattle.std.specs.Prelude.{◌≡◌, ◌⊎◌, ℕ, ◌*◌, ◌%◌, List, Some}
 use Rattle.st_fields.specs.Slot.{slot_bytes}
 use Rattle.st_rack.specs.Device.{Path, State, Image}
-use Rattle.st_rack.specs.Left.{LeftOn}
 use Rattle.st_rack.specs.Moments.{OnDevice}
 use Rattle.st_rack.specs.Steps.{Rewritten}
 use Rattle.st_rack.specs.Readers.{SureIn}
@@ -10,7 +9,7 @@ use Rattle.st_slots.specs.Places.{slot_at}
 use Rattle.st_slots.specs.Reading.{read_any}
 use Rattle.st_slots.specs.declared.spot.Area.{Area}
 use Rattle.st_deltalog.specs.Log.{serial_in}
-use Rattle.st_commit.specs.Standing.{AreOne, newest_over, slots_in}
+use Rattle.st_commit.specs.Standing.{AreOne, newest_over, slots_in, LeftNow}
 use Rattle.st_commit.specs.Ready.{IsOf, Ranked, AllSlots, HeldSlots, BearsRecord}
 
 -- A device bears the record, and all slots are of one history up to its generation.
@@ -24,7 +23,7 @@ pub record Newest (pool : Area) (p : ℕ) (h : ℕ → List ℕ) (devs : List Pa
 
 -- Whatever a crash leaves now is of one history, and this is its newest record.
 abbrev pub NewestOnly : Area → ℕ → List Path → ℕ → List ℕ → State → Type 0
-NewestOnly pool p devs g rec s = (c : Image) → LeftOn devs (λ k. slots_in pool) s c → AreOne pool p devs c × (newest_over pool p devs c ≡ Some (g, rec))
+NewestOnly pool p devs g rec s = (c : Image) → LeftNow devs (λ k. slots_in pool) s c → AreOne pool p devs c × (newest_over pool p devs c ≡ Some (g, rec))
 
 -- the record was written, or it stood there and nothing was done
 abbrev pub Mended : Area → Path → ℕ → List ℕ → State → State → Type 0

@@ -1,9 +1,8 @@
 -- What several devices say of a pool: its newest record, and the log of that generation on the first device.
-use Rattle.std.specs.Prelude.{◌≡◌, ◌⊎◌, ℕ, ◌<◌, Bool, ◌&&◌, nat_eq, nat_lt, List, [], ◌∷◌, Option, Some, None, slice_get, if◌then◌else◌}
+use Rattle.std.specs.Prelude.{◌≡◌, ◌⊎◌, ℕ, ◌<◌, Bool, true, ◌&&◌, nat_eq, nat_lt, List, [], ◌∷◌, Option, Some, None, slice_get, if◌then◌else◌}
 use Rattle.st_fields.specs.Slot.{Found}
-use Rattle.st_rack.specs.Story.{Content}
-use Rattle.st_rack.specs.Device.{Path, State, Image}
-use Rattle.st_rack.specs.Left.{LeftOn}
+use Rattle.st_rack.specs.Story.{Content, Meant, Fair}
+use Rattle.st_rack.specs.Device.{Path, DevState, State, Image, Leaves}
 use Rattle.st_slots.specs.Reading.{read_slot, newer}
 use Rattle.st_slots.specs.declared.spot.Area.{Area}
 use Rattle.st_deltalog.specs.declared.area.FlexArea.{FlexArea}
@@ -44,6 +43,26 @@ slots_in pool r f = if nat_lt r 2 then read_slot pool r f else None
 abbrev pub records : Area → FlexArea → ℕ → Bool × ℕ → Content → Found
 records pool flex place i f = if i.0 then slots_in pool i.1 f else if (nat_eq place 0 && nat_lt i.1 2) then checkpoint_in flex i.1 f else None
 
+-- A crash now may leave this content of a device, and nothing of it that these readers find is torn: each finds nothing, or what it finds
+-- in a content that was meant since the last one settled. Nothing is asked of the device's past.
+pub record LeavesNow {I X : Type 0} (read : I → Content → Option X) (s : DevState) (f : Content) : Type 0 where
+  pub left : Leaves s f
+  pub fair : (r : I) → Fair (read r) s.story f
+
+-- So it is of the devices of a list, each read in its role.
+abbrev pub LeftNow : {I X : Type 0} → List Path → (ℕ → I → Content → Option X) → State → Image → Type 0
+LeftNow devs read s c = (k : ℕ) (d : Path) → slice_get devs k ≡ Some d → LeavesNow (read k) (s d) (c d)
+
+-- The same readers, where that of a checkpoint finds nothing on a device that the pool doesn't own: what another pool's users wrote there
+-- is no checkpoint of this pool.
+abbrev pub owned_records : Area → FlexArea → (Content → Bool) → ℕ → Bool × ℕ → Content → Found
+owned_records pool flex owns place i f = if i.0 then slots_in pool i.1 f else if owns f then records pool flex place i f else None
+
+-- The pool owns the device, whatever a crash leaves of it, and in all that was meant of it.
+pub record Owned (owns : Content → Bool) (s : DevState) : Type 0 where
+  pub left : (f : Content) → Leaves s f → owns f ≡ true
+  pub meant : (m : Content) → Meant s.story m → owns m ≡ true
+
 -- a generation with its record and its log, or no commit yet
 abbrev pub standing_of : ℕ → List ℕ → Option Log → Standing
 standing_of g rec None = None
@@ -56,8 +75,8 @@ AreOne pool p devs c = (j k : ℕ) (d e : Path) → slice_get devs j ≡ Some d 
 
 -- Whatever a crash leaves now is of one history, and stands for the one or for the other.
 abbrev pub OneOf : Area → FlexArea → ℕ → List Path → Path → Standing → Standing → State → Type 0
-OneOf pool flex p devs first old new s = (c : Image) → LeftOn devs (records pool flex) s c → AreOne pool p devs c × ((stands pool flex p devs first c ≡ old) ⊎ (stands pool flex p devs first c ≡ new))
+OneOf pool flex p devs first old new s = (c : Image) → LeftNow devs (records pool flex) s c → AreOne pool p devs c × ((stands pool flex p devs first c ≡ old) ⊎ (stands pool flex p devs first c ≡ new))
 
 -- Whatever a crash leaves now is of one history, and stands for this.
 abbrev pub Only : Area → FlexArea → ℕ → List Path → Path → Standing → State → Type 0
-Only pool flex p devs first it s = (c : Image) → LeftOn devs (records pool flex) s c → AreOne pool p devs c × (stands pool flex p devs first c ≡ it)
+Only pool flex p devs first it s = (c : Image) → LeftNow devs (records pool flex) s c → AreOne pool p devs c × (stands pool flex p devs first c ≡ it)

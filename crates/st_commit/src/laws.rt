@@ -1,6 +1,7 @@
 //! Laws of what a pool's devices stand for. They do nothing when they run.
 
-ghost use Rattle.std.specs.Prelude.{◌≡◌, ◌⊎◌, ◌+◌, ◌*◌, ◌%◌, ◌<◌, ◌≤◌, ◌^◌, ℕ, List, length, Option, Some, None, slice_get};
+ghost use Rattle.std.specs.Prelude.{◌≡◌, ◌⊎◌, ◌+◌, ◌*◌, ◌%◌, ◌<◌, ◌≤◌, ◌^◌, ℕ, Bool, List, length, Option, Some, None, slice_get};
+ghost use Rattle.st_rack.specs.Story.{Content};
 ghost use Rattle.st_rack.specs.Device.{Path, DevState, State, Image, Leaves, Settling, Touched, held};
 ghost use Rattle.st_rack.specs.Left.{LeftOn};
 ghost use Rattle.st_rack.specs.Moments.{Goes, Keeps};
@@ -9,7 +10,7 @@ ghost use Rattle.st_slots.specs.Reading.{read_slot};
 ghost use Rattle.st_deltalog.specs.declared.area.FlexArea.{FlexArea};
 ghost use Rattle.st_deltalog.specs.Log.{Log, log_at};
 ghost use Rattle.st_deltalog.specs.Bearing.{IsSettled, Rests};
-ghost use Rattle.st_commit.specs.Standing.{records, stands, standing_of, newest_over, AreOne};
+ghost use Rattle.st_commit.specs.Standing.{records, owned_records, LeftNow, Owned, stands, standing_of, newest_over, AreOne};
 ghost use Rattle.st_commit.specs.Ready.{AreApart, BearsRecord, IsOf, IsSound, Ready, Settles, Spares};
 ghost use Rattle.st_commit.specs.Reading.{history};
 ghost use Rattle.st_commit.specs.Repair.{Newest, NewestOnly};
@@ -22,8 +23,15 @@ use st_rack::Rack;
 /// shows it.
 pub fn what_is_ready_shows()
     ensures stands { (pool : Area) (flex : FlexArea) (p up g : ℕ) (h : ℕ → List ℕ) (devs : List Path) (first : Path) (old : Option Log) (s : State) (c : Image) → slice_get devs 0 ≡ Some first → IsSound flex
-        → Ready pool flex p up h devs first g old s → LeftOn devs (records pool flex) s c → AreOne pool p devs c × (stands pool flex p devs first c ≡ standing_of g (h g) old) }
+        → Ready pool flex p up h devs first g old s → LeftNow devs (records pool flex) s c → AreOne pool p devs c × (stands pool flex p devs first c ≡ standing_of g (h g) old) }
     ensures borne { (pool : Area) (g : ℕ) (rec : List ℕ) (s : DevState) (f : ℕ → ℕ) → BearsRecord pool g rec s → Leaves s f → read_slot pool (g % 2) f ≡ Some (g, rec) }
+{}
+
+/// Where the pool owns its first device, it is enough that a crash leaves the devices fairly for readers of which that of a checkpoint
+/// finds nothing on a device that isn't the pool's. What users of another pool wrote there in an earlier time then says nothing of it.
+pub fn what_an_owner_is_left()
+    ensures { (pool : Area) (flex : FlexArea) (owns : Content → Bool) (devs : List Path) (first : Path) (s : State) (c : Image) → slice_get devs 0 ≡ Some first → Owned owns (s first)
+        → LeftOn devs (owned_records pool flex owns) s c → LeftNow devs (records pool flex) s c }
 {}
 
 /// A pool stays ready, and its devices go on bearing the record, while its slots are left alone.
@@ -63,12 +71,12 @@ pub fn what_is_mended_is_ready()
 /// A start syncs the devices, reads the newest record and repairs. Whatever a crash leaves meanwhile stands for what the devices could
 /// stand for at its start: a second crash does no harm.
 pub fn a_start_leaves_alike<R: Rack>(start: &R, synced: &R, repaired: &R)
-    ensures { (pool : Area) (flex : FlexArea) (p g : ℕ) (rec : List ℕ) (devs : List Path) (first : Path) → slice_get devs 0 ≡ Some first → AreApart pool flex.area
+    ensures { (pool : Area) (flex : FlexArea) (owns : Content → Bool) (p g : ℕ) (rec : List ℕ) (devs : List Path) (first : Path) → slice_get devs 0 ≡ Some first → AreApart pool flex.area
         → Goes R.moment R.state_at Settles start.now synced.now → ((d : Path) → IsOf devs d → IsSettled (R.state_at synced.now (R.moment synced.now) d))
         → newest_over pool p devs (held (R.state_at synced.now (R.moment synced.now))) ≡ Some (g, rec) → Goes R.moment R.state_at (Spares pool g devs) synced.now repaired.now
         → ((h : ℕ → List ℕ) (bearer : Path) → Newest pool p h devs bearer g rec (R.state_at synced.now (R.moment synced.now)) → Keeps R.moment R.state_at (NewestOnly pool p devs g rec) synced.now repaired.now)
-        → AllOne pool flex p devs (R.state_at start.now (R.moment start.now)) → NoneByChance pool flex devs (R.state_at repaired.now (R.moment repaired.now))
-        → Keeps R.moment R.state_at (StandsAlike pool flex p devs first (R.state_at start.now (R.moment start.now))) start.now repaired.now }
+        → AllOne pool flex owns p devs (R.state_at start.now (R.moment start.now)) → NoneByChance pool flex owns devs (R.state_at repaired.now (R.moment repaired.now))
+        → Keeps R.moment R.state_at (StandsAlike pool flex owns p devs first (R.state_at start.now (R.moment start.now))) start.now repaired.now }
 {
     let _ = start;
     let _ = synced;

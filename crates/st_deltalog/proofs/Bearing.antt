@@ -3,15 +3,14 @@ use Rattle.std.proofs.Common.{◌≡◌, ◌⊎◌, inl, inr, ℕ, zero, suc, �
 use Rattle.std.proofs.lemmas.Bool.{cases_Bool}
 use Rattle.std.proofs.lemmas.Bool.Decides.{nat_tests}
 use Rattle.st_fields.specs.Slot.{Found, sector_of}
-use Rattle.st_rack.specs.Story.{Content, Story, Meant}
-use Rattle.st_rack.specs.Device.{DevState, pending, cells}
+use Rattle.st_rack.specs.Story.{Content, Story, Meant, Fair}
+use Rattle.st_rack.specs.Device.{DevState, pending, cells, Leaves}
 use Rattle.st_rack.specs.Steps.{Changed, Rewriting, Rewritten}
 use Rattle.st_rack.specs.Readers.{AllMeant}
 use Rattle.st_rack.proofs.Chance.{found_in}
 use Rattle.st_rack.proofs.Readers.{held_elsewhere, meant_elsewhere, meant_here}
 use Rattle.st_slots.specs.declared.spot.Area.{Area}
 use Rattle.st_slots.specs.Places.{place_at}
-use Rattle.st_slots.specs.Writing.{LeavesFor}
 use Rattle.st_slots.proofs.Texts.{looks_in, any_fits}
 use Rattle.st_deltalog.specs.declared.area.FlexArea.{FlexArea}
 use Rattle.st_deltalog.specs.Log.{Log, sectors_of, next_of, checkpoint_in, sector_at, body_at, put_on, deltas_in, log_at}
@@ -41,13 +40,13 @@ rests_down flex p low up g log s from until rests = record {
   held = loses_down p low up log.slot log.start (checkpoint_in flex (other log.slot) s.holds) until rests.held;
 }
 
--- Whatever is fairly left reads as the log: of chance only the reader of the other slot is asked.
+-- Whatever is left reads as the log, where the reader of the other slot finds nothing torn in it.
 pub log_left : (flex : FlexArea) (p up g : ℕ) (log : Log) (s : DevState) (f : Content) → length flex.area.magic ≡ 8 → flex.area.slot ≤ 2 ^ 32 → Bears flex p up g log s
-    → LeavesFor (checkpoint_in flex (other log.slot)) s f → log_at flex p g f ≡ Some log
-log_left flex p up g log s f eight small bears leaves =
-    log_is flex p g log f (holds_same flex p g log s.holds f eight small (λ i low high. sym (leaves.left i (bears.sure i low high))) bears.holds)
+    → Leaves s f → Fair (checkpoint_in flex (other log.slot)) s.story f → log_at flex p g f ≡ Some log
+log_left flex p up g log s f eight small bears left fair =
+    log_is flex p g log f (holds_same flex p g log s.holds f eight small (λ i low high. sym (left i (bears.sure i low high))) bears.holds)
     (loses_down p g up log.slot log.start (checkpoint_in flex (other log.slot) f) bears.upto
-    (found_in (checkpoint_in flex (other log.slot)) (Loses p up log.slot log.start) s.story f (loses_none p up log.slot log.start) bears.beside (leaves.fair tt).now))
+    (found_in (checkpoint_in flex (other log.slot)) (Loses p up log.slot log.start) s.story f (loses_none p up log.slot log.start) bears.beside fair))
 
 -- What is held reads as it.
 pub log_held : (flex : FlexArea) (p up g : ℕ) (log : Log) (s : DevState) → Rests flex p up g log s → log_at flex p g s.holds ≡ Some log

@@ -31,7 +31,7 @@ module _ {D : Type 0} (moment : D → ℕ) (state_at : D → ℕ → State) (dev
       → Keeps moment state_at (λ s. (f : Content) → LeavesFor (checkpoint_in flex (other log.slot)) (s dev) f → log_at flex p g f ≡ Some log) old new
   read_each flex p up g log eight small keeps =
       keeps_weak moment state_at (λ s. Bears flex p up g log (s dev)) (λ s. (f : Content) → LeavesFor (checkpoint_in flex (other log.slot)) (s dev) f → log_at flex p g f ≡ Some log) old new
-      (λ s bears f leaves. log_left flex p up g log (s dev) f eight small bears leaves) keeps
+      (λ s bears f leaves. log_left flex p up g log (s dev) f eight small bears leaves.left (leaves.fair tt).now) keeps
 
 -- After a sync nothing is left but what is held.
 read_after : (flex : FlexArea) (p up g : ℕ) (log : Log) (at : ℕ) (bytes : List ℕ) (a b : DevState) → Rewritten at bytes a b → Rests flex p up g log b → (f : Content) → Leaves b f → log_at flex p g f ≡ Some log
