@@ -13,16 +13,16 @@ use Rattle.st_poolrec.specs.Conditions.{most_filesystems, rows_fit}
 use Rattle.st_flexlog.specs.declared.state.FlexState.{FlexState}
 use Rattle.st_rack.specs.Story.{Content, Story, Began, Wrote, Settled, Meant, Fair, FairPast, NoChance, latest, put_in, unsettled, within}
 use Rattle.st_rack.specs.Device.{Path, DevState, State, Image, Leaves, cells}
-use Rattle.st_rack.specs.Left.{LeavesFairly, LeftOn}
+use Rattle.st_rack.specs.Left.{LeavesFairly}
 use Rattle.st_rack.specs.Calls.{Devices}
 use Rattle.st_rack.proofs.Cells.{cells_same}
 use Rattle.st_rack.proofs.Chance.{found_in}
 use Rattle.st_slots.specs.Reading.{read_slot, newer}
 use Rattle.st_deltalog.specs.Log.{Log, log_at, checkpoint_in}
 use Rattle.st_commit.specs.Standing as commits
-use Rattle.st_commit.specs.Standing.{keep, with_log, records, AreOne}
+use Rattle.st_commit.specs.Standing.{keep, with_log, records, AreOne, LeftNow}
 use Rattle.st_commit.specs.Ready.{IsSound}
-use Rattle.st_commit.proofs.Roles.{slot_left, slots_left_on}
+use Rattle.st_commit.proofs.Roles.{slot_fair, slots_left_on}
 use Rattle.st_commit.proofs.Steps.{Sure, certain, record_left}
 use Rattle.st_commit.proofs.Whole.{based_sure}
 use Rattle.st_image.specs.Looks.{PoolSlot, Checkpoint, is_serial, has_header, look_of, pool_area, flex_area}
@@ -190,10 +190,10 @@ module _ (p : ℕ) (devs : Devices) (g : ℕ) (rec : PoolRec) (st : FlexState) (
   own_first (e ∷ ds) d is headers = let same : e.0 ≡ d = cc in subst (λ (q : Path). has_header p e.1 (c q) ≡ true) same (headers 0 e refl)
 
   -- what is fairly left of the pool, as a commit's readers have it
-  commit_left : LeftOn (paths devs) (records pool_area flex_area) (cut_state s) c
+  commit_left : LeftNow (paths devs) (records pool_area flex_area) (cut_state s) c
   commit_left k d is = record {
     left = λ i sure. (leaves k d is).left i (sym (unsettled_cut (s d).story i) ∙ sure);
-    fair = λ i. by k i.0 i.1 is (leaves k d is);
+    fair = λ i. (by k i.0 i.1 is (leaves k d is)).now;
   }
     where
       by : (k : ℕ) (b : Bool) (r : ℕ) → slice_get (paths devs) k ≡ Some d → LeavesFairly (look_of p (first_sectors devs) k) (s d) (c d) → NoChance (records pool_area flex_area k (b, r)) (cut (s d).story) (c d)
@@ -231,7 +231,7 @@ module _ (p : ℕ) (devs : Devices) (g : ℕ) (rec : PoolRec) (st : FlexState) (
   each_record k d is r lt =
       let at = path_at devs k d is in
       found_in (read_slot pool_area r) (IsRecord p) (cut (s d.0).story) (c d.0) (λ x e. absurd (cc)) (λ m meant. pool.records d.0 (record { index = k; is = at }) r lt m (meant_cut (s d.0).story m meant))
-      ((slot_left pool_area (cut_state s d.0) (c d.0) (slots_left_on pool_area flex_area (paths devs) (cut_state s) c commit_left k d.0 at) r lt).fair tt).now
+      (slot_fair pool_area (cut_state s d.0) (c d.0) (slots_left_on pool_area flex_area (paths devs) (cut_state s) c commit_left k d.0 at) r lt)
 
   are_records : AreRecords p devs c
   are_records = record {

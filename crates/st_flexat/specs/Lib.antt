@@ -1,2 +1,0 @@
-pub mod FlexAt
-pub mod Replay
