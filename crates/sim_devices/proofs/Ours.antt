@@ -6,7 +6,7 @@ use Rattle.st_rack.specs.Device.{Path}
 use Rattle.std.specs.Prelude.{IfOk}
 use Rattle.st_rack.specs.Device.{State}
 use Rattle.st_memrack.specs.Blank.{AreDistinct, IsBlank}
-use Rattle.st_session.specs.Opening.{IsFit}
+use Rattle.st_rack.specs.Calls.{IsFit}
 use Rattle.sim_devices.specs.Devices.{AreOurs, has_device}
 
 or_parts : (a b : Bool) → (a || b) ≡ false → (a ≡ false) × (b ≡ false)

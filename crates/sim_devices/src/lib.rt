@@ -2,7 +2,7 @@
 #![tactic(auto)]
 
 ghost use Rattle.std.specs.Prelude.{◌≡◌, ◌+◌, ◌≤◌, IfOk, OnOk, length};
-ghost use Rattle.st_session.specs.Opening.{IsFit};
+ghost use Rattle.st_rack.specs.Calls.{IsFit};
 ghost use Rattle.sim_devices.specs.Devices.{AreOurs, has_device};
 
 use st_memrack::NoFaultRack;

@@ -7,11 +7,11 @@ use Rattle.std.specs.Cmp.Lexicographic.{slice_cmp}
 use Rattle.std.specs.List.{AllByRecursion}
 use Rattle.std.specs.List.Sorted.{IsStrictlySortedBy}
 use Rattle.st_units.specs.declared.rows.DevRow.{DevRow}
-use Rattle.st_rack.specs.Calls.{Devices, Rises, path_in, sectors_of}
+use Rattle.st_rack.specs.Calls.{Devices, Rises, IsFit, path_in, sectors_of}
 use Rattle.st_rack.specs.Device.{Path}
 use Rattle.st_model.specs.Valid.{IsValid}
 use Rattle.st_session.proofs.Places.{drop_at}
-use Rattle.st_session.specs.Opening.{row_of, rows_of, opening, IsFit}
+use Rattle.st_session.specs.Opening.{row_of, rows_of, opening}
 
 length-rows_of : (devs ds : Devices) → length (rows_of devs ds) ≡ length ds
 length-rows_of devs [] = refl
@@ -42,6 +42,7 @@ opening-IsValid devs fit rises = record {
   pools = tt;
   there = tt;
   flights = tt;
+  on = tt;
   apart = tt;
 }
 

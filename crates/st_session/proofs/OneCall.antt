@@ -18,52 +18,54 @@ use Rattle.st_model.specs.declared.state.PoolState.{PoolState}
 use Rattle.st_model.specs.Look.{is_started}
 use Rattle.st_model.specs.Parts.{started, pool_at, table_of, shown_table}
 use Rattle.st_model.specs.Step.{step, is_built}
-use Rattle.st_model.specs.steps.EngineStateReport.{pool_info}
+use Rattle.st_model.specs.Shown.{pool_info}
 use Rattle.st_model.specs.Valid.{IsValid}
 use Rattle.st_model.specs.Wanted.{want_of}
-use Rattle.st_model.proofs.Validity.{step-IsValid}
+use Rattle.st_model.proofs.Validity.{step-keeps}
 use Rattle.st_history.specs.declared.log.Event.{Event}
 use Rattle.st_history.specs.declared.log.Event.TheVariants.{Arrive, Grant, Release}
 use Rattle.st_history.specs.Failures.{failures_of}
 use Rattle.st_history.specs.History.{replay, state_after, idle, AreSteps, AreOneCall}
 use Rattle.st_history.proofs.Short.{built-not_short}
 use Rattle.st_history.proofs.Snoc.{replay-snoc}
-use Rattle.st_book.specs.Effects.{IsFitting, info_at}
+use Rattle.st_model.specs.Pieces.{info_at}
+use Rattle.st_wants.specs.Wants.{takes_table}
 use Rattle.st_book.specs.Stands.{Stands, PartStands, PartShows, ComesBack}
 use Rattle.st_book.specs.View.{BookView, lent_at, or_zero}
+use Rattle.st_book.specs.View as book
 use Rattle.st_book.proofs.Released.{part_fits}
 use Rattle.st_plain.specs.Views.{CellView, TableView, pools_of}
-use Rattle.st_session.specs.OnPart.{plain_view, IsShown, IsTableShown, IsRun}
-use Rattle.st_session.specs.Running.{events_of, RanCall}
-use Rattle.st_session.specs.View.{SessionView, IsStanding}
+use Rattle.st_session.specs.inner.OnPart.{plain_view, IsShown, IsTableShown, IsRun}
+use Rattle.st_session.specs.inner.Running.{events_of, RanCall}
+use Rattle.st_session.specs.inner.View.{SessionView, IsStanding}
 
 own_ticket : (t : ℕ) → (t == t) ≡ true
 own_ticket t = grind (arith, common_steps)
 
 -- the one row of the lock, after the arrival and after the grant
-pub row_arrived : (l : Lock) (t : ℕ) (want : Want) → l ≡ idle l.next → t ≡ l.next → row_at t (arrived 1 want l).rows ≡ Some (new_row t 1 want)
-row_arrived l t want quiet is =
+pub row_arrived : (seat : ℕ) (l : Lock) (t : ℕ) (want : Want) → l ≡ idle l.next → t ≡ l.next → row_at t (arrived seat want l).rows ≡ Some (new_row t seat want)
+row_arrived seat l t want quiet is =
     let rows : l.rows ≡ [] = ap (λ (x : Lock). x.rows) quiet in
     let same = own_ticket t in
     rw (rows, sym is, same) refl
 
-pub row_granted : (l : Lock) (t : ℕ) (want : Want) → l ≡ idle l.next → t ≡ l.next → row_at t (granted t (arrived 1 want l)).rows ≡ Some (marked t (new_row t 1 want))
-row_granted l t want quiet is =
+pub row_granted : (seat : ℕ) (l : Lock) (t : ℕ) (want : Want) → l ≡ idle l.next → t ≡ l.next → row_at t (granted t (arrived seat want l)).rows ≡ Some (marked t (new_row t seat want))
+row_granted seat l t want quiet is =
     let rows : l.rows ≡ [] = ap (λ (x : Lock). x.rows) quiet in
     let same = own_ticket t in
     rw (rows, sym is, same) refl
 
-pub lock_idle : (l : Lock) (t : ℕ) (want : Want) → l ≡ idle l.next → t ≡ l.next → released t (granted t (arrived 1 want l)) ≡ idle (l.next + 1)
-lock_idle l t want quiet is =
+pub lock_idle : (seat : ℕ) (l : Lock) (t : ℕ) (want : Want) → l ≡ idle l.next → t ≡ l.next → released t (granted t (arrived seat want l)) ≡ idle (l.next + 1)
+lock_idle seat l t want quiet is =
     let rows : l.rows ≡ [] = ap (λ (x : Lock). x.rows) quiet in
     let same = own_ticket t in
     rw (rows, sym is, same) refl
 
 -- what is so after the grant
-pub record Granted (s0 : EngineState) (b0 b1 b2 : BookView) (t : ℕ) (want : Want) (cells : List CellView) (table : Option TableView) (infos : List PoolInfo) (table_info : Option TableInfo) (short : Bool) : Type 0 where
+pub record Granted (seat : ℕ) (s0 : EngineState) (b0 b1 b2 : BookView) (t : ℕ) (want : Want) (cells : List CellView) (table : Option TableView) (infos : List PoolInfo) (table_info : Option TableInfo) (short : Bool) : Type 0 where
   pub standing : IsStanding s0 b0
   pub ticket : t ≡ b0.lock.next
-  pub arrival : b1 ≡ record b0 { lock = arrived 1 want b0.lock; log = b0.log ++ Arrive 1 t want ∷ [] }
+  pub arrival : b1 ≡ record b0 { lock = arrived seat want b0.lock; log = b0.log ++ Arrive seat t want ∷ [] }
   pub locked : b2.lock ≡ granted t b1.lock
   pub logged : IfSome (row_at t b1.lock.rows) (λ r. b2.log ≡ b1.log ++ Grant r.seat t ∷ [])
   pub stands : Stands s0 0 b2
@@ -72,14 +74,14 @@ pub record Granted (s0 : EngineState) (b0 b1 b2 : BookView) (t : ℕ) (want : Wa
   pub lent : length b1.log < 2 ^ 62 → lent_at t b2.lent ≡ or_zero (option_map (λ (x : TableView). 0) table) + sum_by (λ (x : CellView). 0) cells
 
 -- from the clauses of the arrival and the grant
-pub granted_is : (s0 : EngineState) (b0 b1 b2 : BookView) (t : ℕ) (call : Call) (want : Want) (cells : List CellView) (table : Option TableView) (infos : List PoolInfo) (table_info : Option TableInfo) (short : Bool)
-    → want ≡ want_of call → IsStanding s0 b0 → t ≡ b0.lock.next → b1 ≡ record b0 { lock = arrived 1 want b0.lock; log = b0.log ++ Arrive 1 t want ∷ [] } → ((s : EngineState) (base : ℕ) → Stands s base b0 → Stands s base b1)
+pub granted_is : (seat : ℕ) (s0 : EngineState) (b0 b1 b2 : BookView) (t : ℕ) (call : Call) (want : Want) (cells : List CellView) (table : Option TableView) (infos : List PoolInfo) (table_info : Option TableInfo) (short : Bool)
+    → want ≡ want_of call → IsStanding s0 b0 → t ≡ b0.lock.next → b1 ≡ record b0 { lock = arrived seat want b0.lock; log = b0.log ++ Arrive seat t want ∷ [] } → ((s : EngineState) (base : ℕ) → Stands s base b0 → Stands s base b1)
     → b2.lock ≡ granted t b1.lock → IfSome (row_at t b1.lock.rows) (λ r. b2.log ≡ b1.log ++ Grant r.seat t ∷ []) → ((s : EngineState) (base : ℕ) → Stands s base b1 → Stands s base b2)
     → ((s : EngineState) (base : ℕ) → Stands s base b1 → IfSome (row_at t b1.lock.rows) (λ r. PartStands r.want (replay s b1.log) (pools_of cells) (option_map plain_view table)))
     → (short ≡ false → (s : EngineState) (base : ℕ) → Stands s base b1 → IfSome (row_at t b1.lock.rows) (λ r. PartShows r.want (replay s b1.log) (map (λ (i : PoolInfo). i) infos) (option_map (λ (i : TableInfo). i) table_info)))
     → ((s : EngineState) (base : ℕ) → Stands s base b1 → length b1.log < 2 ^ 62 → lent_at t b2.lent ≡ or_zero (option_map (λ (x : TableView). 0) table) + sum_by (λ (x : CellView). 0) cells)
-    → Granted s0 b0 b1 b2 t (want_of call) cells table infos table_info short
-granted_is s0 b0 b1 b2 t call want cells table infos table_info short is standing ticket arrival stands1 locked logged stands2 part shown lent =
+    → Granted seat s0 b0 b1 b2 t (want_of call) cells table infos table_info short
+granted_is seat s0 b0 b1 b2 t call want cells table infos table_info short is standing ticket arrival stands1 locked logged stands2 part shown lent =
     let first = stands1 s0 0 standing.stands in
     record {
       standing = standing;
@@ -120,41 +122,16 @@ fewer (p ∷ pools) = here (is_started p.mode) (fewer pools)
     here true h = omega (arith, h)
     here false h = omega (arith, h)
 
-fits_want : (w : Want) (s : EngineState) (cells : List CellView) (table : Option TableView) → PartStands w s (pools_of cells) (option_map plain_view table) → IsFitting w (length cells) (is_some table)
-fits_want (wants.Some n Write) s cells table h = (at_most_one cells (pool_at n (started s)) h.0, no_table table h.1)
+fits_want : (w : Want) (s : EngineState) (cells : List CellView) (table : Option TableView) → PartStands w s (pools_of cells) (option_map plain_view table) → is_some table ≡ takes_table w
+fits_want w s cells table h = same_there table ∙ (ap is_some h.board ∙ given_there (takes_table w))
   where
-    at_most_one : (cs : List CellView) (o : Option PoolState) → pools_of cs ≡ Rattle.std.specs.Option.option_to_list o → length cs ≤ 1
-    at_most_one [] o k = lit≤ tt
-    at_most_one (c ∷ []) o k = lit≤ tt
-    at_most_one (c ∷ d ∷ cs) None k = absurd cc
-    at_most_one (c ∷ d ∷ cs) (Some p) k = absurd cc
+    same_there : (o : Option TableView) → is_some o ≡ is_some (option_map (λ (v : book.TableView). v.state) (option_map plain_view o))
+    same_there None = refl
+    same_there (Some x) = refl
 
-    no_table : (o : Option TableView) → option_map plain_view o ≡ None → is_some o ≡ false
-    no_table None k = refl
-    no_table (Some x) k = absurd cc
-fits_want (wants.Some n Read) s cells table h = (none cells h.0, no_table table h.1)
-  where
-    none : (cs : List CellView) → pools_of cs ≡ [] → length cs ≡ 0
-    none [] k = refl
-    none (c ∷ cs) k = absurd cc
-
-    no_table : (o : Option TableView) → option_map plain_view o ≡ None → is_some o ≡ false
-    no_table None k = refl
-    no_table (Some x) k = absurd cc
-fits_want (wants.All Write) s cells table h = there table h.2
-  where
-    there : (o : Option TableView) → IsSomeAnd (option_map plain_view o) (λ v. v.state ≡ table_of s) → is_some o ≡ true
-    there None k = absurd k
-    there (Some x) k = refl
-fits_want (wants.All Read) s cells table h = (none cells h.0, no_table table h.1)
-  where
-    none : (cs : List CellView) → pools_of cs ≡ [] → length cs ≡ 0
-    none [] k = refl
-    none (c ∷ cs) k = absurd cc
-
-    no_table : (o : Option TableView) → option_map plain_view o ≡ None → is_some o ≡ false
-    no_table None k = refl
-    no_table (Some x) k = absurd cc
+    given_there : (b : Bool) → is_some (cond b (Some (table_of s)) None) ≡ b
+    given_there true = refl
+    given_there false = refl
 
 all_kept : (cells : List CellView) → AllByRecursion (λ (c : CellView). Unit {0}) cells
 all_kept [] = tt
@@ -171,28 +148,28 @@ no_slack : (table : Option TableView) → IfSome (option_map plain_view table) (
 no_slack None = tt
 no_slack (Some t) = lit≤ tt
 
-module _ (s0 : EngineState) (b0 b1 b2 : BookView) (t : ℕ) (call : Call) (cells : List CellView) (table : Option TableView) (infos : List PoolInfo) (table_info : Option TableInfo) (short : Bool)
-    (h : Granted s0 b0 b1 b2 t (want_of call) cells table infos table_info short) where
+module _ (seat : ℕ) (s0 : EngineState) (b0 b1 b2 : BookView) (t : ℕ) (call : Call) (cells : List CellView) (table : Option TableView) (infos : List PoolInfo) (table_info : Option TableInfo) (short : Bool)
+    (h : Granted seat s0 b0 b1 b2 t (want_of call) cells table infos table_info short) where
   want : Want
   want = want_of call
 
-  row1 : row_at t b1.lock.rows ≡ Some (new_row t 1 (want_of call))
-  row1 = ap (λ (b : BookView). row_at t b.lock.rows) h.arrival ∙ row_arrived b0.lock t (want_of call) h.standing.quiet h.ticket
+  row1 : row_at t b1.lock.rows ≡ Some (new_row t seat (want_of call))
+  row1 = ap (λ (b : BookView). row_at t b.lock.rows) h.arrival ∙ row_arrived seat b0.lock t (want_of call) h.standing.quiet h.ticket
 
-  pub row2 : row_at t b2.lock.rows ≡ Some (marked t (new_row t 1 (want_of call)))
-  row2 = ap (λ (l : Lock). row_at t l.rows) (h.locked ∙ ap (λ (b : BookView). granted t b.lock) h.arrival) ∙ row_granted b0.lock t (want_of call) h.standing.quiet h.ticket
+  pub row2 : row_at t b2.lock.rows ≡ Some (marked t (new_row t seat (want_of call)))
+  row2 = ap (λ (l : Lock). row_at t l.rows) (h.locked ∙ ap (λ (b : BookView). granted t b.lock) h.arrival) ∙ row_granted seat b0.lock t (want_of call) h.standing.quiet h.ticket
 
-  log1 : b1.log ≡ b0.log ++ Arrive 1 t (want_of call) ∷ []
+  log1 : b1.log ≡ b0.log ++ Arrive seat t (want_of call) ∷ []
   log1 = ap (λ (b : BookView). b.log) h.arrival
 
-  log2 : b2.log ≡ b1.log ++ Grant 1 t ∷ []
+  log2 : b2.log ≡ b1.log ++ Grant seat t ∷ []
   log2 = rw row1 at h.logged
 
   state1 : replay s0 b1.log ≡ replay s0 b0.log
-  state1 = ap (replay s0) log1 ∙ replay-snoc s0 b0.log (Arrive 1 t (want_of call))
+  state1 = ap (replay s0) log1 ∙ replay-snoc s0 b0.log (Arrive seat t (want_of call))
 
   state2 : replay s0 b2.log ≡ replay s0 b0.log
-  state2 = ap (replay s0) log2 ∙ replay-snoc s0 b1.log (Grant 1 t) ∙ state1
+  state2 = ap (replay s0) log2 ∙ replay-snoc s0 b1.log (Grant seat t) ∙ state1
 
   pub part_stands : PartStands (want_of call) (replay s0 b0.log) (pools_of cells) (option_map plain_view table)
   part_stands = let p = rw row1 at h.part in subst (λ (s : EngineState). PartStands (want_of call) s (pools_of cells) (option_map plain_view table)) state1 p
@@ -232,16 +209,16 @@ module _ (s0 : EngineState) (b0 b1 b2 : BookView) (t : ℕ) (call : Call) (cells
     comes_back : IfSome (row_at t b2.lock.rows) (λ r. ComesBack r.want (replay s0 b2.log) 0 (e ∷ []) (pools_of after) (option_map plain_view board))
     comes_back = rw row2 comes2
 
-    pub fitting : IfSome (row_at t b2.lock.rows) (λ r. IsFitting r.want (length after) (is_some board))
+    pub fitting : IfSome (row_at t b2.lock.rows) (λ r. is_some board ≡ takes_table r.want)
     fitting = let f = fits_want (want_of call) _ after board run.part in rw row2 f
 
     valid_after : IsValid (step (replay s0 b0.log) e.call e.env).1
-    valid_after = step-IsValid (replay s0 b0.log) e.call e.env h.standing.valid
+    valid_after = step-keeps (replay s0 b0.log) e.call e.env h.standing.valid
 
     pub few : length b2.cells + length after ≤ 16
     few =
-        let live : (marked t (new_row t 1 (want_of call))).live ≡ true = rw (own_ticket t) refl in
-        let fits = part_fits s0 0 b2 t (marked t (new_row t 1 (want_of call))) (e ∷ []) (pools_of after) (option_map plain_view board) h.stands row2 live comes2 in
+        let live : (marked t (new_row t seat (want_of call))).live ≡ true = rw (own_ticket t) refl in
+        let fits = part_fits s0 0 b2 t (marked t (new_row t seat (want_of call))) (e ∷ []) (pools_of after) (option_map plain_view board) h.stands row2 live comes2 in
         let fits0 = rw state2 at fits in
         let count = valid_after.count in
         let less = fewer (step (replay s0 b0.log) e.call e.env).1.pools in
@@ -267,7 +244,7 @@ module _ (s0 : EngineState) (b0 b1 b2 : BookView) (t : ℕ) (call : Call) (cells
 
     number : length b2.log < 2 ^ 62 → or_zero (option_map (λ (x : TableView). 0) board) + sum_by (λ (x : CellView). 0) after ≡ lent_at t b2.lent + failures_of (e ∷ [])
     number small =
-        let longer : length b2.log ≡ length b1.log + 1 = ap length log2 ∙ length-append b1.log (Grant 1 t ∷ []) in
+        let longer : length b2.log ≡ length b1.log + 1 = ap length log2 ∙ length-append b1.log (Grant seat t ∷ []) in
         let out = h.lent (omega (arith, small, longer)) in
         let zero_out = no_sum cells table in
         let zero_back = no_sum after board in
@@ -283,14 +260,14 @@ module _ (s0 : EngineState) (b0 b1 b2 : BookView) (t : ℕ) (call : Call) (cells
     -- the part came back
     module _ (b3 : BookView) (entries : Roomy Entry) (alone : entries.items ≡ e ∷ []) (place : ℕ) (locked : b3.lock ≡ released t b2.lock) (logged : IfSome (row_at t b2.lock.rows) (λ r. b3.log ≡ b2.log ++ Release r.seat t entries ∷ []))
         (stands : Stands s0 0 b3) (at : place ≡ length b2.log) where
-      log3 : b3.log ≡ b2.log ++ Release 1 t entries ∷ []
+      log3 : b3.log ≡ b2.log ++ Release seat t entries ∷ []
       log3 = rw row2 at logged
 
       state3 : replay s0 b3.log ≡ (step (replay s0 b0.log) e.call e.env).1
-      state3 = ap (replay s0) log3 ∙ replay-snoc s0 b2.log (Release 1 t entries) ∙ ap (λ (es : List Entry). state_after (replay s0 b2.log) es) alone ∙ ap (λ (s : EngineState). (step s e.call e.env).1) state2
+      state3 = ap (replay s0) log3 ∙ replay-snoc s0 b2.log (Release seat t entries) ∙ ap (λ (es : List Entry). state_after (replay s0 b2.log) es) alone ∙ ap (λ (s : EngineState). (step s e.call e.env).1) state2
 
       lock3 : b3.lock ≡ idle (b0.lock.next + 1)
-      lock3 = locked ∙ ap (released t) (h.locked ∙ ap (λ (b : BookView). granted t b.lock) h.arrival) ∙ lock_idle b0.lock t (want_of call) h.standing.quiet h.ticket
+      lock3 = locked ∙ ap (released t) (h.locked ∙ ap (λ (b : BookView). granted t b.lock) h.arrival) ∙ lock_idle seat b0.lock t (want_of call) h.standing.quiet h.ticket
 
       pub standing_after : IsStanding s0 b3
       standing_after = record {
@@ -302,21 +279,23 @@ module _ (s0 : EngineState) (b0 b1 b2 : BookView) (t : ℕ) (call : Call) (cells
       view : BookView → SessionView
       view b = record { state = replay s0 b.log; log = b.log; tickets = b.lock.next }
 
-      all : b3.log ≡ b0.log ++ events_of b0.lock.next entries call
+      all : b3.log ≡ b0.log ++ events_of seat b0.lock.next entries call
       all =
-          log3 ∙ ap (λ (l : List Event). l ++ Release 1 t entries ∷ []) (log2 ∙ ap (λ (l : List Event). l ++ Grant 1 t ∷ []) log1)
-          ∙ append_assoc (b0.log ++ Arrive 1 t (want_of call) ∷ []) (Grant 1 t ∷ []) (Release 1 t entries ∷ [])
-          ∙ append_assoc b0.log (Arrive 1 t (want_of call) ∷ []) (Grant 1 t ∷ Release 1 t entries ∷ [])
-          ∙ ap (λ (x : ℕ). b0.log ++ events_of x entries call) h.ticket
+          log3 ∙ ap (λ (l : List Event). l ++ Release seat t entries ∷ []) (log2 ∙ ap (λ (l : List Event). l ++ Grant seat t ∷ []) log1)
+          ∙ append_assoc (b0.log ++ Arrive seat t (want_of call) ∷ []) (Grant seat t ∷ []) (Release seat t entries ∷ [])
+          ∙ append_assoc b0.log (Arrive seat t (want_of call) ∷ []) (Grant seat t ∷ Release seat t entries ∷ [])
+          ∙ ap (λ (x : ℕ). b0.log ++ events_of seat x entries call) h.ticket
 
-      pub ran_call : RanCall n call (record { state = replay s0 b0.log; log = b0.log; tickets = b0.lock.next }) (record { state = replay s0 b3.log; log = b3.log; tickets = b3.lock.next }) place
+      pub ran_call : RanCall seat n call (record { state = replay s0 b0.log; log = b0.log; tickets = b0.lock.next }) (record { state = replay s0 b3.log; log = b3.log; tickets = b3.lock.next }) place
       ran_call = record {
         entry = e;
         entries = entries;
         alone = alone;
+        built = built;
         is_due = run.due;
+        calm = run.calm;
         state = state3;
         log = all;
         tickets = ap (λ (l : Lock). l.next) lock3;
-        released = (let two : length b2.log ≡ length b0.log + 2 = (let x : length b2.log ≡ length b1.log + 1 = ap length log2 ∙ length-append b1.log (Grant 1 t ∷ []) in let y : length b1.log ≡ length b0.log + 1 = ap length log1 ∙ length-append b0.log (Arrive 1 t (want_of call) ∷ []) in omega (arith, x, y)) in at ∙ two);
+        released = (let two : length b2.log ≡ length b0.log + 2 = (let x : length b2.log ≡ length b1.log + 1 = ap length log2 ∙ length-append b1.log (Grant seat t ∷ []) in let y : length b1.log ≡ length b0.log + 1 = ap length log1 ∙ length-append b0.log (Arrive seat t (want_of call) ∷ []) in omega (arith, x, y)) in at ∙ two);
       }

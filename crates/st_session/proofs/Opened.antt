@@ -8,7 +8,7 @@ use Rattle.st_history.specs.History.{idle}
 use Rattle.st_book.specs.Stands.{Stands}
 use Rattle.st_book.specs.View.{BookView}
 use Rattle.st_plain.specs.Views.{TableView}
-use Rattle.st_session.specs.View.{IsStanding}
+use Rattle.st_session.specs.inner.View.{IsStanding}
 
 pub opened : (s : EngineState) (table : TableView) (opening : EngineState) (b : BookView) → IsValid s → s ≡ record { pools = []; devices = s.devices; next = 1 } → opening ≡ s
     → table ≡ record { state = table_of (record { pools = []; devices = s.devices; next = 1 }); spare = Rattle.std.specs.Prelude.true } → b.lock ≡ start → b.log ≡ []

@@ -1,5 +1,5 @@
 -- what a call makes of the part that its ticket holds
-use Rattle.std.proofs.Common.{ℕ, ◌≡◌, inl, inr, List, [], ◌∷◌, map, Bool, true, false, Option, Some, None, option_map, cond, Result, Ok, Err, refl, sym, ◌∙◌}
+use Rattle.std.proofs.Common.{ℕ, ◌≡◌, inl, inr, List, [], ◌∷◌, map, Bool, true, false, Option, Some, None, option_map, cond, Result, Ok, Err, refl, ap, sym, ◌∙◌}
 use Rattle.std.proofs.lemmas.Slice.Eq.{bytes_eq-Decides}
 use Rattle.std.specs.Prelude.{IfOk, OnErr, IfSome, IsSome, IsSomeAnd}
 use Rattle.std.specs.List.{AllByRecursion, IsDistinct}
@@ -7,7 +7,7 @@ use Rattle.std.specs.Str.{bytes_eq}
 use Rattle.st_units.specs.declared.cause.Cause.TheVariants.{OutOfMemory}
 use Rattle.st_units.specs.declared.memory.NoMemory.{NoMemory}
 use Rattle.st_model.specs.declared.call.Call.{Call}
-use Rattle.st_model.specs.declared.call.Call.TheVariants.{CreatePool, DestroyPool, StopPool, StartPool, RenamePool, AddDataDevs, InitCache, AddCacheDevs, CreateFilesystems, DestroyFilesystems, SnapshotFilesystem, RenameFilesystem, SetSizeLimit, SetFsLimit, SetOverprovisioning, FsWrite, FsRead, Check, PoolReport, EngineStateReport, PowerCycle}
+use Rattle.st_model.specs.declared.call.Call.TheVariants.{CreatePool, EngineStateReport}
 use Rattle.st_model.specs.declared.entry.Entry.{Entry}
 use Rattle.st_model.specs.declared.entry.Env.TheVariants.{Plain, NoMem}
 use Rattle.st_model.specs.declared.entry.Origin.TheVariants.{Line}
@@ -15,6 +15,7 @@ use Rattle.st_model.specs.declared.info.PoolInfo.{PoolInfo}
 use Rattle.st_model.specs.declared.info.TableInfo.{TableInfo}
 use Rattle.st_model.specs.declared.reply.Reply.{Reply}
 use Rattle.st_model.specs.declared.state.EngineState.{EngineState}
+use Rattle.st_model.specs.steps.EngineStateReport.{report_plain}
 use Rattle.st_model.specs.Answer.{refused}
 use Rattle.st_model.specs.Look.{Text}
 use Rattle.st_model.specs.declared.state.PoolState.{PoolState}
@@ -24,10 +25,12 @@ use Rattle.st_model.specs.Valid.{IsValid}
 use Rattle.st_model.specs.Wanted.{want_of}
 use Rattle.st_model.proofs.Built.{built-MayRun}
 use Rattle.st_model.proofs.Codes.{plain-no_failure}
-use Rattle.st_book.specs.Stands.{AreNamedApart, PartStands, PartShows}
-use Rattle.st_plain.specs.Parts.{PartIs, InfosAre, IsAnswered, CellIsShown, TableIsShown}
+use Rattle.st_book.specs.Stands.{PartStands, PartShows}
+use Rattle.st_book.specs.View as book
+use Rattle.st_model.specs.Pieces.{AreNamedApart, ShowPools, every}
+use Rattle.st_plain.specs.Parts.{PartIs, IsAnswered, CellIsShown, TableIsShown}
 use Rattle.st_plain.specs.Views.{CellView, TableView, pools_of}
-use Rattle.st_session.specs.OnPart.{plain_view, IsShown, IsTableShown, IsLeft, IsRun}
+use Rattle.st_session.specs.inner.OnPart.{plain_view, IsShown, IsTableShown, IsLeft, IsRun}
 
 cell_shown : (s : EngineState) (c : CellView) → CellIsShown s c → IsShown s c
 cell_shown s c (inl e) none = absurd cc
@@ -44,7 +47,7 @@ table_shown s t (inr h) none = h
 left_by_creation : (s : EngineState) (name : Text) (devices : List Text) (reply : Reply) (cells : List CellView) (t : TableView) → IsAnswered s (CreatePool name devices) reply cells t → IsLeft s (CreatePool name devices) reply cells (Some t)
 left_by_creation s name devices reply cells t h = record {
   replied = h.answer;
-  part = (h.part.apart, h.part.pools, h.part.board);
+  part = record { pools = h.part.pools; board = ap Some h.part.board };
   shown = cells_shown s cells h.infos;
   table_shown = table_shown s t h.table_info;
 }
@@ -58,15 +61,19 @@ pub created : (name : Text) (devices : List Text) (answer : Result Reply NoMemor
     → IfOk answer (λ reply. (s : EngineState) → IsValid s → PartStands (want_of (CreatePool name devices)) s (pools_of before) (option_map plain_view held) → Shows s → IsLeft s (CreatePool name devices) reply cells table)
 created name devices (Err e) before cells held table Shows there h = tt
 created name devices (Ok reply) before cells held None Shows there h = absurd (nothing_there there)
-created name devices (Ok reply) before cells None (Some u) Shows there h = λ s valid stands shows. absurd stands.2
+created name devices (Ok reply) before cells None (Some u) Shows there h = λ s valid stands shows. absurd (let none = stands.board in cc)
 created name devices (Ok reply) before cells (Some t) (Some u) Shows there h = λ s valid stands shows.
-    left_by_creation s name devices reply cells u (h s valid (record { apart = stands.0; pools = stands.1; board = stands.2 }))
+    left_by_creation s name devices reply cells u (h s valid (record { pools = stands.pools; board = (let same = stands.board in cc) }))
 
-no_cells : (s : EngineState) (cells : List CellView) → pools_of cells ≡ [] → AllByRecursion (IsShown s) cells
+no_cells : (s : EngineState) (cells : List CellView) → ((n : Text) → pool_at n (pools_of cells) ≡ None) → AllByRecursion (IsShown s) cells
 no_cells s [] h = tt
-no_cells s (c ∷ cells) h = absurd cc
+no_cells s (c ∷ cells) h = absurd (there (bytes_eq c.pool.name c.pool.name) ((bytes_eq-Decides c.pool.name c.pool.name).1 refl) (h c.pool.name))
+  where
+    there : (b : Bool) → b ≡ true → cond b (Some c.pool) (pool_at c.pool.name (pools_of cells)) ≡ None → ⊥
+    there true e k = cc
+    there false e k = cc
 
-no_table : (s : EngineState) (table : Option TableView) → option_map plain_view table ≡ None → IfSome table (IsTableShown s)
+no_table : (s : EngineState) (table : Option TableView) → option_map (λ (v : book.TableView). v.state) (option_map plain_view table) ≡ None → IfSome table (IsTableShown s)
 no_table s None h = tt
 no_table s (Some t) h = absurd cc
 
@@ -76,19 +83,20 @@ not_short false info i h e = refl
 
 -- EngineStateReport on its part
 pub reported : (answer : Result Reply NoMemory) (cells : List CellView) (table : Option TableView) (short : Bool) (info : Option TableInfo) (infos : List PoolInfo) → (short ≡ true → info ≡ None)
-    → IfOk answer (λ reply. IsSomeAnd info (λ i. (s : EngineState) → IsValid s → i ≡ shown_table (table_of s) → InfosAre s infos → reply ≡ (step s EngineStateReport Plain).0))
+    → IfOk answer (λ reply. IsSomeAnd info (λ i. (s : EngineState) → IsValid s → i ≡ shown_table (table_of s) → ShowPools every s infos → reply ≡ (step s EngineStateReport Plain).0))
     → IfOk answer (λ reply. (s : EngineState) → IsValid s → PartStands (want_of EngineStateReport) s (pools_of cells) (option_map plain_view table)
     → (short ≡ false → PartShows (want_of EngineStateReport) s infos info) → IsLeft s EngineStateReport reply cells table)
+unfolding report_plain
 reported (Err e) cells table short info infos whole h = tt
 reported (Ok reply) cells table short None infos whole h = absurd h
 reported (Ok reply) cells table short (Some i) infos whole h = λ s valid stands shows.
     let shown = shows (not_short short (Some i) i whole refl) in
-    let same : i ≡ shown_table (table_of s) = cc in
+    let same : i ≡ shown_table (table_of s) = (let board = shown.board in cc) in
     record {
-      replied = h s valid same (record { apart = shown.0.apart; shown = shown.0.shown });
+      replied = h s valid same shown.pools;
       part = stands;
-      shown = no_cells s cells stands.0;
-      table_shown = no_table s table stands.1;
+      shown = no_cells s cells stands.pools.found;
+      table_shown = no_table s table stands.board;
     }
 
 -- a pool whose name is apart from those behind it is found by it
@@ -114,58 +122,22 @@ found_shown : (s : EngineState) (cells all : List CellView) → ((n : Text) → 
 found_shown s [] all same h = tt
 found_shown s (c ∷ cells) all same h = ((λ none. sym (same c.pool.name) ∙ h.0), found_shown s cells all same h.1)
 
-one_table : (s : EngineState) (table : Option TableView) → IsSomeAnd (option_map plain_view table) (λ v. v.state ≡ table_of s) → IfSome table (IsTableShown s)
+one_table : (s : EngineState) (table : Option TableView) → option_map (λ (v : book.TableView). v.state) (option_map plain_view table) ≡ Some (table_of s) → IfSome table (IsTableShown s)
 one_table s None h = tt
-one_table s (Some t) h = λ none. h
+one_table s (Some t) h = λ none. (let same : t.state ≡ table_of s = cc in same)
 
 -- a part that stands for the state shows it
 pub stands_shown : (s : EngineState) (call : Call) (cells : List CellView) (table : Option TableView) → is_built call ≡ true → PartStands (want_of call) s (pools_of cells) (option_map plain_view table)
     → AllByRecursion (IsShown s) cells × IfSome table (IsTableShown s)
-stands_shown s (CreatePool name devices) cells table built h = (found_shown s cells cells h.1 (own_found s cells h.0), one_table s table h.2)
-stands_shown s EngineStateReport cells table built h = (no_cells s cells h.0, no_table s table h.1)
-stands_shown s (DestroyPool name) cells table built h = absurd cc
-stands_shown s (StopPool name) cells table built h = absurd cc
-stands_shown s (StartPool id) cells table built h = absurd cc
-stands_shown s (RenamePool name new) cells table built h = absurd cc
-stands_shown s (AddDataDevs pool devices) cells table built h = absurd cc
-stands_shown s (InitCache pool devices) cells table built h = absurd cc
-stands_shown s (AddCacheDevs pool devices) cells table built h = absurd cc
-stands_shown s (CreateFilesystems pool filesystems) cells table built h = absurd cc
-stands_shown s (DestroyFilesystems pool names) cells table built h = absurd cc
-stands_shown s (SnapshotFilesystem pool origin name) cells table built h = absurd cc
-stands_shown s (RenameFilesystem pool name new) cells table built h = absurd cc
-stands_shown s (SetSizeLimit pool name limit) cells table built h = absurd cc
-stands_shown s (SetFsLimit pool limit) cells table built h = absurd cc
-stands_shown s (SetOverprovisioning pool value) cells table built h = absurd cc
-stands_shown s (FsWrite pool name sector payload) cells table built h = absurd cc
-stands_shown s (FsRead pool name sector sectors) cells table built h = absurd cc
-stands_shown s (Check pool) cells table built h = absurd cc
-stands_shown s (PoolReport pool) cells table built h = absurd cc
-stands_shown s PowerCycle cells table built h = absurd cc
+stands_shown s (CreatePool name devices) cells table built h = (found_shown s cells cells h.pools.found (own_found s cells h.pools.apart), one_table s table h.board)
+stands_shown s EngineStateReport cells table built h = (no_cells s cells h.pools.found, no_table s table h.board)
+stands_shown s _ cells table built h = absurd cc
 
 -- want of memory is answered so, and leaves the state
 no_memory : (s : EngineState) (call : Call) → is_built call ≡ true → step s call NoMem ≡ (refused OutOfMemory, s)
 no_memory s (CreatePool name devices) h = refl
 no_memory s EngineStateReport h = refl
-no_memory s (DestroyPool name) h = absurd cc
-no_memory s (StopPool name) h = absurd cc
-no_memory s (StartPool id) h = absurd cc
-no_memory s (RenamePool name new) h = absurd cc
-no_memory s (AddDataDevs pool devices) h = absurd cc
-no_memory s (InitCache pool devices) h = absurd cc
-no_memory s (AddCacheDevs pool devices) h = absurd cc
-no_memory s (CreateFilesystems pool filesystems) h = absurd cc
-no_memory s (DestroyFilesystems pool names) h = absurd cc
-no_memory s (SnapshotFilesystem pool origin name) h = absurd cc
-no_memory s (RenameFilesystem pool name new) h = absurd cc
-no_memory s (SetSizeLimit pool name limit) h = absurd cc
-no_memory s (SetFsLimit pool limit) h = absurd cc
-no_memory s (SetOverprovisioning pool value) h = absurd cc
-no_memory s (FsWrite pool name sector payload) h = absurd cc
-no_memory s (FsRead pool name sector sectors) h = absurd cc
-no_memory s (Check pool) h = absurd cc
-no_memory s (PoolReport pool) h = absurd cc
-no_memory s PowerCycle h = absurd cc
+no_memory s _ h = absurd cc
 
 pub if_ok : (P Q : Reply → Type 0) (answer : Result Reply NoMemory) → ((r : Reply) → P r → Q r) → IfOk answer P → IfOk answer Q
 if_ok P Q (Ok r) f h = f r h

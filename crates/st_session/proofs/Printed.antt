@@ -3,7 +3,8 @@ use Rattle.std.proofs.Common.{◌≡◌, ℕ, List, [], ◌++◌, take, drop, Op
 use Rattle.std.specs.Prelude.{OnOk, OnErr}
 use Rattle.std.specs.Io.KnownBytes.{Appends}
 use Rattle.st_lines.proofs.Known.{Appends-start, Appends-more}
-use Rattle.st_session.specs.Printing.{Printing, Started}
+use Rattle.st_session.specs.inner.Printing.{Printing}
+use Rattle.st_session.specs.Statuses.{Started}
 
 pub printing_start : (held : Option (List ℕ)) (whole : List ℕ) → Printing held held [] whole whole
 printing_start held whole = record { written = []; took = Appends-start held; makes = refl }

@@ -6,13 +6,13 @@ use Rattle.st_lines.specs.Lines.{lines_of}
 use Rattle.st_lines.proofs.Known.{Appends-start}
 use Rattle.st_history.specs.declared.log.Event.{Event}
 use Rattle.st_model.specs.declared.state.EngineState.{EngineState}
-use Rattle.st_session.specs.View.{SessionView}
-use Rattle.st_session.specs.Going.{IsGoing}
-use Rattle.st_session.specs.Headline.{AreLinesOf, IsRunOf}
+use Rattle.st_session.specs.inner.View.{SessionView}
+use Rattle.st_session.specs.inner.Going.{IsGoing}
+use Rattle.st_session.specs.Headline.{AreLinesOf, IsRunOf, IsCutOff}
 use Rattle.st_session.specs.Opening.{opening}
 use Rattle.st_session.specs.Out.{out}
-use Rattle.st_session.specs.Printing.{Started}
-use Rattle.st_session.proofs.Laned.{laned-LaneOrder}
+use Rattle.st_session.specs.Statuses.{Started}
+use Rattle.st_session.proofs.Laned.{laned_start, laned-LaneOrder}
 
 lines_for : (left : Option (List ℕ)) → (lines : List (List ℕ)) × AreLinesOf left lines
 lines_for None = ([], tt)
@@ -21,15 +21,22 @@ lines_for (Some input) = (lines_of input, refl)
 pub started_nothing : (held : Option (List ℕ)) (whole : List ℕ) → Started held held whole
 started_nothing held whole = record { written = []; rest = whole; took = Appends-start held; makes = refl }
 
--- where nothing was written, a prefix was
-pub unwritten : (left held : Option (List ℕ)) (trace : Bool) (log : List Event) → (lines : List (List ℕ)) × AreLinesOf left lines × Started held held (out 1 trace lines log)
-unwritten left held trace log = let some = lines_for left in (some.0, some.1, started_nothing held (out 1 trace some.0 log))
-
-pub going-IsRunOf : (devs : Devices) (lines : List (List ℕ)) (s : EngineState) (i : ℕ) (session : SessionView) → s ≡ opening devs → IsGoing lines s i session → IsRunOf devs lines session.log
-going-IsRunOf devs lines s i session e h =
-    let own : IsGoing lines (opening devs) i session = subst (λ (x : EngineState). IsGoing lines x i session) e h in
+pub going-IsRunOf : (devs : Devices) (lanes : ℕ) (lines : List (List ℕ)) (s : EngineState) (i : ℕ) (session : SessionView) → s ≡ opening devs → IsGoing lanes lines s i session → IsRunOf devs lanes lines session.log
+going-IsRunOf devs lanes lines s i session e h =
+    let own : IsGoing lanes lines (opening devs) i session = subst (λ (x : EngineState). IsGoing lanes lines x i session) e h in
     record {
       history = own.history;
-      order = laned-LaneOrder lines i session.tickets session.log own.laned;
+      order = laned-LaneOrder lanes lines i session.tickets session.log own.laned;
       quiet = ap (λ (l : Lock). l.rows) own.lock;
+      calm = own.calm;
     }
+
+-- no line was run
+pub nothing_ran : (devs : Devices) (lanes : ℕ) (lines : List (List ℕ)) → IsRunOf devs lanes lines []
+nothing_ran devs lanes lines = record { history = tt; order = laned-LaneOrder lanes lines 0 0 [] (laned_start lanes lines); quiet = refl; calm = refl }
+
+-- where nothing was written, a prefix was
+pub unwritten : (devs : Devices) (lanes : ℕ) (trace : Bool) (left held : Option (List ℕ)) (log : List Event) → log ≡ [] → IsCutOff devs lanes trace left held held log
+unwritten devs lanes trace left held log none =
+    let some = lines_for left in
+    rw none (record { lines = some.0; read = some.1; run = nothing_ran devs lanes some.0; prefix = started_nothing held (out lanes trace some.0 []) })

@@ -5,12 +5,13 @@ use Rattle.st_rack.specs.Calls.{Devices}
 use Rattle.st_wants.specs.Lock.{start}
 use Rattle.st_wants.specs.Rules.{lock_run}
 use Rattle.st_history.specs.declared.log.Event.{Event}
+use Rattle.st_history.specs.Failures.{failures}
 use Rattle.st_history.specs.History.{History, moves_of}
 use Rattle.st_lines.specs.Lines.{lines_of}
 use Rattle.st_session.specs.LaneOrder.{LaneOrder}
 use Rattle.st_session.specs.Opening.{opening}
 use Rattle.st_session.specs.Out.{out}
-use Rattle.st_session.specs.Printing.{Started}
+use Rattle.st_session.specs.Statuses.{Started}
 
 -- the lines are those of all the bytes that the source had, where it tells them
 abbrev pub AreLinesOf : Option (List ℕ) → List (List ℕ) → Type 0
@@ -18,23 +19,24 @@ AreLinesOf None lines = Unit {0}
 AreLinesOf (Some input) lines = lines ≡ lines_of input
 
 -- The log is one history of the engine, begun with no pool on the rack's devices: the lock's rule holds in it, and
--- each entry has the reply of the sequential engine at its place. Each line's call stands in it at most once, in the
--- lane's order, and each ticket was released.
-pub record IsRunOf (devs : Devices) (lines : List (List ℕ)) (log : List Event) : Type 0 where
+-- each entry has the reply of the sequential engine at its place. Each line's call stands in it at most once, in its
+-- lane's order, each ticket was released, and no entry is a fault of a device.
+pub record IsRunOf (devs : Devices) (lanes : ℕ) (lines : List (List ℕ)) (log : List Event) : Type 0 where
   pub history : History (opening devs) log
-  pub order : LaneOrder 1 lines log
+  pub order : LaneOrder lanes lines log
   pub quiet : (lock_run start (moves_of log)).rows ≡ []
+  pub calm : failures log ≡ 0
 
 -- a run that is done: the sink took just the output of the lines and the log
-pub record IsDone (devs : Devices) (trace : Bool) (left held now : Option (List ℕ)) (log : List Event) : Type 0 where
+pub record IsDone (devs : Devices) (lanes : ℕ) (trace : Bool) (left held now : Option (List ℕ)) (log : List Event) : Type 0 where
   pub lines : List (List ℕ)
   pub read : AreLinesOf left lines
-  pub run : IsRunOf devs lines log
-  pub written : Appends held now (out 1 trace lines log)
+  pub run : IsRunOf devs lanes lines log
+  pub written : Appends held now (out lanes trace lines log)
 
 -- a run whose output was cut off: the sink took a prefix of the output
-pub record IsCutOff (devs : Devices) (trace : Bool) (left held now : Option (List ℕ)) (log : List Event) : Type 0 where
+pub record IsCutOff (devs : Devices) (lanes : ℕ) (trace : Bool) (left held now : Option (List ℕ)) (log : List Event) : Type 0 where
   pub lines : List (List ℕ)
   pub read : AreLinesOf left lines
-  pub run : IsRunOf devs lines log
-  pub prefix : Started held now (out 1 trace lines log)
+  pub run : IsRunOf devs lanes lines log
+  pub prefix : Started held now (out lanes trace lines log)

@@ -1,11 +1,8 @@
 pub mod Entries
-pub mod Going
 pub mod Headline
+pub mod inner
 pub mod LaneOrder
-pub mod OnPart
 pub mod Opening
 pub mod Out
-pub mod Printing
-pub mod Running
 pub mod Statuses
-pub mod View
+pub mod Told

@@ -6,9 +6,10 @@ use Rattle.st_model.specs.declared.entry.Entry.{Entry}
 use Rattle.st_history.specs.declared.log.Event.{Event}
 use Rattle.st_model.specs.Answer.{refused}
 use Rattle.st_calls.specs.declared.fault.LineFault.{LineFault}
-use Rattle.st_calls.specs.declared.fault.LineFault.TheVariants.{BadCall, BadName, NotBuilt, OutOfMemory}
+use Rattle.st_calls.specs.declared.fault.LineFault.TheVariants.{BadCall, BadName, OutOfMemory}
 use Rattle.st_calls.specs.Form.{form}
-use Rattle.st_calls.specs.Names.{call_text}
+use Rattle.st_calls.specs.Names.{call_word}
+use Rattle.st_model.specs.Step.{is_built}
 use Rattle.st_replies.specs.Shown.{reply_line, summary_line, not_built_line}
 use Rattle.st_trace.specs.Traced.{trace_line}
 use Rattle.st_session.specs.Entries.{entries_of, entry_of}
@@ -17,12 +18,15 @@ use Rattle.st_session.specs.Entries.{entries_of, entry_of}
 abbrev pub fault_line : ℕ → LineFault → List ℕ
 fault_line n (BadCall member) = reply_line n (refused (causes.BadCall member))
 fault_line n (BadName member) = reply_line n (refused (causes.BadName member))
-fault_line n (NotBuilt name) = not_built_line n (call_text name)
 fault_line n OutOfMemory = reply_line n (refused causes.OutOfMemory)
 
--- the reply to a line without an entry: its fault's, or where it is a call, want of memory before it arrived
+-- the reply to a call without an entry: that the engine doesn't run it, or want of memory before it arrived
+abbrev pub unentered_line : ℕ → Call → List ℕ
+unentered_line n call = if is_built call then reply_line n (refused causes.OutOfMemory) else not_built_line n (call_word call)
+
+-- the reply to a line without an entry
 abbrev pub formed_line : ℕ → Result (ℕ × Call) LineFault → List ℕ
-formed_line n (Ok read) = reply_line n (refused causes.OutOfMemory)
+formed_line n (Ok read) = unentered_line n read.1
 formed_line n (Err fault) = fault_line n fault
 
 abbrev pub entered_line : ℕ → Entry → List ℕ

@@ -2,13 +2,15 @@
 #![tactic(auto)]
 
 mod lines;
+mod on_part;
 mod opening;
 mod output;
-mod part;
 mod run;
 mod session;
+mod told;
 mod top;
 
 pub use run::{Outcome, Status};
 pub use session::{Answer, Session};
+pub use told::{exit_status, status_line};
 pub use top::run_words;

@@ -1,7 +1,7 @@
 ghost use Rattle.std.specs.Prelude.{ℕ, ◌≡◌, [], length, IfOk, OnOk};
 ghost use Rattle.st_model.specs.Valid.{IsValid};
-ghost use Rattle.st_session.specs.Going.{IsGoing};
-ghost use Rattle.st_session.specs.Running.{AreAnswers};
+ghost use Rattle.st_session.specs.inner.Going.{IsGoing};
+ghost use Rattle.st_session.specs.inner.Running.{AreAnswers};
 
 use crate::session::{Answer, Session};
 use st_lines::Lines;
@@ -13,19 +13,20 @@ use std::alloc::Global;
 pub(crate) fn run_lines<G: Gate>(
     alloc: Global,
     gate: &G,
+    lanes: u8,
     session: &mut Session,
     lines: &Lines,
 ) -> Result<ItemList<Answer>, NoMemory>
     requires empty { session.old.log ≡ [] }
     requires no_ticket { session.old.tickets ≡ 0 }
     requires valid { IsValid session.old.state }
-    ensures going { (i : ℕ) × IsGoing lines.now session.old.state i session.new }
-    ensures answers { IfOk result (λ answers. AreAnswers 1 lines.now session.new.log answers) }
+    ensures going { (i : ℕ) × IsGoing lanes lines.now session.old.state i session.new }
+    ensures answers { IfOk result (λ answers. AreAnswers lanes lines.now session.new.log answers) }
     ensures all { IfOk result (λ answers. length answers ≡ length lines.now) }
 {
     let mut answers = ItemList::make(alloc);
     for i in 0..lines.len() {
-        let answer = session.run_line(alloc, gate, i as u64 + 1, lines.at(i))?;
+        let answer = session.run_line(alloc, gate, lanes, i as u64 + 1, lines.at(i))?;
         answers.push(answer)?;
     }
     Ok(answers)

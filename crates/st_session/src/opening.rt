@@ -14,7 +14,7 @@ fn device<R: Rack>(rack: &R, i: usize) -> Result<DevRow, NoMemory>
     let path = rack.path_of(i);
     let sectors = match rack.sectors(path) {
         Some(sectors) => sectors,
-        None => 0,
+        None => unreachable!(),
     };
     Ok(DevRow {
         path: path.copy()?,

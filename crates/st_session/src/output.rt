@@ -1,12 +1,13 @@
 ghost use Rattle.std.specs.Prelude.{ℕ, ◌≡◌, ◌+◌, ◌-◌, ◌≤◌, ◌^◌, ◌<◌, IfOk, OnOk, OnErr, length, [], if◌then◌else◌};
 ghost use Rattle.std.specs.Io.KnownBytes.{Appends};
-ghost use Rattle.st_lines.specs.Causes.{Rose};
+ghost use Rattle.st_units.specs.Causes.{Rose};
 ghost use Rattle.st_session.specs.Out.{fault_line, trace_of, summary};
-ghost use Rattle.st_session.specs.Printing.{Prints, Stops, Started, Replies, whole, IsShown, AreShown, shown_line, shown_ok, shown_from, shown_oks};
-ghost use Rattle.st_session.specs.Running.{IsRelease};
+ghost use Rattle.st_session.specs.inner.Printing.{Prints, Stops, Replies, whole, IsShown, AreShown, shown_line, shown_ok, shown_from, shown_oks};
+ghost use Rattle.st_session.specs.Statuses.{Started};
+ghost use Rattle.st_session.specs.inner.Running.{IsRelease};
 
 use crate::session::Answer;
-use st_calls::LineFault;
+use st_calls::{LineFault, call_word};
 use st_history::{Event, Log};
 use st_lines::{Failed, Outlet, Sink};
 use st_model::Reply;
@@ -61,7 +62,6 @@ fn fault_line(alloc: Global, number: u64, fault: LineFault) -> Result<Bytes, NoM
         LineFault::BadName(member) => {
             reply_line(alloc, number, &Reply::refused(Cause::BadName(member)))
         }
-        LineFault::NotBuilt(name) => not_built_line(alloc, number, name.text()),
         LineFault::OutOfMemory => reply_line(alloc, number, &Reply::refused(Cause::OutOfMemory)),
     }
 }
@@ -93,6 +93,10 @@ fn line_text(alloc: Global, log: &Log, number: u64, answer: &Answer) -> Result<L
         }
         Answer::Fault(fault) => {
             let text = fault_line(alloc, number, *fault)?;
+            Ok(LineText { text, ok: false })
+        }
+        Answer::NotBuilt(call) => {
+            let text = not_built_line(alloc, number, call_word(call))?;
             Ok(LineText { text, ok: false })
         }
         Answer::Refused => {

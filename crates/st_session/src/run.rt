@@ -2,10 +2,11 @@ ghost use Rattle.std.specs.Prelude.{◌≡◌, []};
 
 use st_history::Log;
 use st_lines::Limit;
+use st_units::PoolSerial;
 use std::alloc::Global;
 
 /// How a run ended.
-#[derive(Clone, Copy, Debug, PartialEq, Eq)]
+#[derive(Clone, Copy)]
 pub enum Status {
     /// All output was written.
     Done,
@@ -18,6 +19,10 @@ pub enum Status {
     OutOfMemory,
     /// The input is beyond that limit.
     InputLimit(Limit),
+    /// A device failed before any line was run.
+    OpenFault,
+    /// The devices stand for no state: the least serial of a pool that breaks a rule.
+    Foreign(PoolSerial),
 }
 
 /// What a run leaves: how it ended, the rack that it was handed, and the log of its lock.

@@ -1,13 +1,17 @@
-ghost use Rattle.std.specs.Prelude.{ℕ, List, ◌≡◌, ◌⊎◌, ◌<◌, ◌≤◌, [], Some, None, map, length, string_bytes, IfSome};
-ghost use Rattle.std.specs.Io.KnownBytes.{Appends};
-ghost use Rattle.st_lines.specs.Causes.{Rose};
+ghost use Rattle.std.specs.Prelude.{ℕ, List, ◌≡◌, ◌⊎◌, ◌≤◌, [], false, Some, None, map, string_bytes, IfSome};
+ghost use Rattle.std.specs.Io.KnownBytes.{Appends, IsAtEnd};
+ghost use Rattle.st_units.specs.Causes.{Rose};
+ghost use Rattle.st_history.specs.Failures.{failures};
 ghost use Rattle.st_history.specs.History.{History};
-ghost use Rattle.st_words.specs.Command.{words_of};
+ghost use Rattle.st_words.specs.Meaning.{words_of};
 ghost use Rattle.st_session.specs.Headline.{AreLinesOf, IsRunOf, IsDone, IsCutOff};
-ghost use Rattle.st_session.specs.Opening.{IsFit, opening};
+ghost use Rattle.st_limits.specs.declared.TheConstants.{MAX_LANES};
+ghost use Rattle.st_lines.specs.Limits.{first_broken};
+ghost use Rattle.st_rack.specs.Calls.{IsFit};
+ghost use Rattle.st_session.specs.Opening.{opening};
 ghost use Rattle.st_session.specs.Out.{out};
-ghost use Rattle.st_session.specs.Printing.{Started, AreShown, whole};
-ghost use Rattle.st_session.specs.Statuses.{IsAfterInput, IsWritten, IsEarly, status_of, asks_trace};
+ghost use Rattle.st_session.specs.inner.Printing.{AreShown, whole};
+ghost use Rattle.st_session.specs.Statuses.{Started, IsAfterInput, IsWritten, IsEarly, IsOfDevices, status_of, are_served, asks_lanes, asks_trace};
 
 use crate::lines::run_lines;
 use crate::opening::opening;
@@ -15,11 +19,11 @@ use crate::output::{Stop, write_out};
 use crate::run::{Outcome, Status};
 use crate::session::{Answer, Session};
 use st_history::Log;
-use st_lines::{Limit, Lines, MOST_BYTES, ReadStop, Sink, Source, read_lines};
+use st_lines::{Limit, Lines, ReadStop, Sink, Source, read_lines};
 use st_model::Gate;
 use st_rack::Rack;
 use st_units::NoMemory;
-use st_words::{WordsFault, read_words};
+use st_words::{RunMode, Words, WordsFault, read_words};
 use std::alloc::Global;
 use std::sync::Wait;
 use std::thread::Threads;
@@ -34,6 +38,16 @@ fn status_of(stop: ReadStop) -> Status
     }
 }
 
+/// Whether the words are served: `check`, `gen` and `--recover` aren't yet.
+fn is_served(words: Words) -> bool
+    ensures { result ≡ are_served (Some words) }
+{
+    match words.mode {
+        RunMode::Run => !words.recover,
+        RunMode::Check | RunMode::Gen => false,
+    }
+}
+
 /// Writes the output, and tells how that ended.
 fn written<K: Sink>(
     alloc: Global,
@@ -45,8 +59,7 @@ fn written<K: Sink>(
     requires { AreShown 1 log.now.items answers.now }
     ensures status { IsAfterInput result }
     ensures done { result ≡ Status.Done → Appends (K.held sink.old) (K.held sink.new) (whole trace log.now.items answers.now) }
-    ensures cut { result ≡ Status.WriteFault → Started (K.held sink.old) (K.held sink.new) (whole trace log.now.items answers.now) }
-    ensures memory { result ≡ Status.OutOfMemory → Started (K.held sink.old) (K.held sink.new) (whole trace log.now.items answers.now) }
+    ensures cut { (result ≡ Status.Done → ⊥) → Started (K.held sink.old) (K.held sink.new) (whole trace log.now.items answers.now) }
     ensures fault { result ≡ Status.WriteFault → Rose (K.faults sink.old) (K.faults sink.new) }
     ensures later { K.faults sink.old ≤ K.faults sink.new }
 {
@@ -61,7 +74,7 @@ fn written<K: Sink>(
 fn run_input<K: Sink, R: Rack, G: Gate>(
     alloc: Global,
     lines: &Lines,
-    trace: bool,
+    words: Words,
     sink: &mut K,
     rack: R,
     gate: &G,
@@ -69,10 +82,9 @@ fn run_input<K: Sink, R: Rack, G: Gate>(
     requires { IsFit (R.devs rack) }
     ensures rack { result.rack ≡ rack }
     ensures status { IsAfterInput result.status }
-    ensures done { result.status ≡ Status.Done → IsRunOf (R.devs rack) lines.now result.log.items × Appends (K.held sink.old) (K.held sink.new) (out 1 trace lines.now result.log.items) }
-    ensures cut { result.status ≡ Status.WriteFault → IsRunOf (R.devs rack) lines.now result.log.items × Started (K.held sink.old) (K.held sink.new) (out 1 trace lines.now result.log.items) }
-    ensures memory { result.status ≡ Status.OutOfMemory → Started (K.held sink.old) (K.held sink.new) (out 1 trace lines.now result.log.items) }
-    ensures history { History (opening (R.devs rack)) result.log.items }
+    ensures run { IsRunOf (R.devs rack) words.lanes lines.now result.log.items }
+    ensures done { result.status ≡ Status.Done → Appends (K.held sink.old) (K.held sink.new) (out words.lanes words.trace lines.now result.log.items) }
+    ensures cut { (result.status ≡ Status.Done → ⊥) → Started (K.held sink.old) (K.held sink.new) (out words.lanes words.trace lines.now result.log.items) }
     ensures fault { result.status ≡ Status.WriteFault → Rose (K.faults sink.old) (K.faults sink.new) }
     ensures later { K.faults sink.old ≤ K.faults sink.new }
 {
@@ -82,7 +94,7 @@ fn run_input<K: Sink, R: Rack, G: Gate>(
     let Ok(mut session) = Session::begin(alloc, state) else {
         return Outcome::early(alloc, Status::OutOfMemory, rack);
     };
-    let ran = run_lines(alloc, gate, &mut session, lines);
+    let ran = run_lines(alloc, gate, words.lanes, &mut session, lines);
     let log = session.close();
     let Ok(answers) = ran else {
         return Outcome {
@@ -91,7 +103,7 @@ fn run_input<K: Sink, R: Rack, G: Gate>(
             log,
         };
     };
-    let status = written(alloc, sink, &log, answers.items(), trace);
+    let status = written(alloc, sink, &log, answers.items(), words.trace);
     Outcome { status, rack, log }
 }
 
@@ -118,21 +130,31 @@ pub fn run_words<
 ) -> Outcome<R>
     requires { IsFit (R.devs rack) }
     ensures rack { result.rack ≡ rack }
-    ensures done { result.status ≡ Status.Done → IsDone (R.devs rack) (asks_trace (words_of (map string_bytes words.now))) (S.left source.old) (K.held sink.old) (K.held sink.new) result.log.items }
-    ensures cut_off { result.status ≡ Status.WriteFault → IsCutOff (R.devs rack) (asks_trace (words_of (map string_bytes words.now))) (S.left source.old) (K.held sink.old) (K.held sink.new) result.log.items }
-    ensures out_of_memory { result.status ≡ Status.OutOfMemory → (lines : List (List ℕ)) × AreLinesOf (S.left source.old) lines × Started (K.held sink.old) (K.held sink.new) (out 1 (asks_trace (words_of (map string_bytes words.now))) lines result.log.items) }
+
+    // What was done, and what was written.
+    ensures done { result.status ≡ Status.Done → IsDone (R.devs rack) (asks_lanes (words_of (map string_bytes words.now))) (asks_trace (words_of (map string_bytes words.now))) (S.left source.old) (K.held sink.old) (K.held sink.new) result.log.items }
+    ensures cut_off { result.status ≡ Status.WriteFault → IsCutOff (R.devs rack) (asks_lanes (words_of (map string_bytes words.now))) (asks_trace (words_of (map string_bytes words.now))) (S.left source.old) (K.held sink.old) (K.held sink.new) result.log.items }
+    ensures out_of_memory { result.status ≡ Status.OutOfMemory → IsCutOff (R.devs rack) (asks_lanes (words_of (map string_bytes words.now))) (asks_trace (words_of (map string_bytes words.now))) (S.left source.old) (K.held sink.old) (K.held sink.new) result.log.items }
+    ensures early { IsEarly result.status → (sink.new ≡ sink.old) × (result.log.items ≡ []) }
+    ensures end { IsWritten result.status → IsAtEnd (S.left source.new) }
+
+    // What holds of the log with every status.
     ensures history { History (opening (R.devs rack)) result.log.items }
-    ensures usage { result.status ≡ Status.Usage → words_of (map string_bytes words.now) ≡ None }
-    ensures no_usage { words_of (map string_bytes words.now) ≡ None → (result.status ≡ Status.Usage) ⊎ (result.status ≡ Status.OutOfMemory) }
+    ensures calm { failures result.log.items ≡ 0 }
+
+    // The cause of each status.
+    ensures usage { result.status ≡ Status.Usage → are_served (words_of (map string_bytes words.now)) ≡ false }
+    ensures no_usage { are_served (words_of (map string_bytes words.now)) ≡ false → (result.status ≡ Status.Usage) ⊎ (result.status ≡ Status.OutOfMemory) }
     ensures read_fault { result.status ≡ Status.ReadFault → Rose (S.faults source.old) (S.faults source.new) }
     ensures write_fault { result.status ≡ Status.WriteFault → Rose (K.faults sink.old) (K.faults sink.new) }
-    ensures limit { (limit : Limit) → result.status ≡ Status.InputLimit limit → (limit ≡ Limit.Bytes) × IfSome (S.left source.old) (λ input. MOST_BYTES < length input) }
-    ensures within_limit { IsWritten result.status → IfSome (S.left source.old) (λ input. length input ≤ MOST_BYTES) }
-    ensures early { IsEarly result.status → (sink.new ≡ sink.old) × (result.log.items ≡ []) }
+    ensures limit { (limit : Limit) → result.status ≡ Status.InputLimit limit → IfSome (S.left source.old) (λ input. first_broken input ≡ Some limit) }
+    ensures within_limit { IsWritten result.status → IfSome (S.left source.old) (λ input. first_broken input ≡ None) }
+    ensures no_device { IsOfDevices result.status → ⊥ }
 {
     let _ = rt;
     let words = match read_words(alloc, words) {
-        Ok(words) => words,
+        Ok(words) if is_served(words) => words,
+        Ok(_) => return Outcome::early(alloc, Status::Usage, rack),
         Err(WordsFault::Usage) => return Outcome::early(alloc, Status::Usage, rack),
         Err(WordsFault::OutOfMemory) => {
             return Outcome::early(alloc, Status::OutOfMemory, rack);
@@ -142,5 +164,5 @@ pub fn run_words<
         Ok(lines) => lines,
         Err(stop) => return Outcome::early(alloc, status_of(stop), rack),
     };
-    run_input(alloc, &lines, words.trace, sink, rack, gate)
+    run_input(alloc, &lines, words, sink, rack, gate)
 }

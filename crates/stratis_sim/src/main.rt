@@ -1,18 +1,16 @@
 //! A simulated engine over standard input and output.
 #![tactic(auto)]
 
-use st_lines::{Limit, Reading, Writing};
+use st_lines::{Reading, Writing};
 use st_model::NoGate;
-use st_session::{Status, run_words};
+use st_session::{Status, exit_status, run_words, status_line};
 use std::process::ExitCode;
 use std::{env, io};
 
 /// How many devices the program makes.
 const DEVICES: usize = 12;
 
-/// The exit status where memory was refused before the run.
-const OUT_OF_MEMORY: u8 = 5;
-
+/// The words after the program's name.
 fn words(rt: &HostRuntime) -> io::Result<Vec<String>> {
     let mut list = Vec::new(rt.alloc());
     for word in env::args(rt)?.skip(1) {
@@ -21,38 +19,20 @@ fn words(rt: &HostRuntime) -> io::Result<Vec<String>> {
     Ok(list)
 }
 
-fn code_of(status: Status) -> u8 {
-    match status {
-        Status::Done => 0,
-        Status::Usage => 2,
-        Status::ReadFault => 3,
-        Status::WriteFault => 4,
-        Status::OutOfMemory => OUT_OF_MEMORY,
-        Status::InputLimit(_) => 6,
+/// Tells how the run ended, where that can be told, and gives the exit status in any case.
+fn end(rt: &HostRuntime, status: Status) -> ExitCode {
+    if let Ok(Some(line)) = status_line(rt.alloc(), status) {
+        let _told = rt.eprintln(line.as_str());
     }
+    ExitCode::from(exit_status(status))
 }
 
-/// One line to standard error, for every status but Done.
-fn tell(rt: &HostRuntime, status: Status) -> io::Result<()> {
-    match status {
-        Status::Done => Ok(()),
-        Status::Usage => rt.eprintln(
-            "usage: stratis_sim MODE [--lanes N] [--trace] [--recover] [--number N]",
-        ),
-        Status::ReadFault => rt.eprintln("read fault"),
-        Status::WriteFault => rt.eprintln("write fault"),
-        Status::OutOfMemory => rt.eprintln("out of memory"),
-        Status::InputLimit(Limit::Bytes) => rt.eprintln("input limit: bytes"),
-        Status::InputLimit(Limit::Lines) => rt.eprintln("input limit: lines"),
-        Status::InputLimit(Limit::Line(line)) => eprintln!(rt; "input limit: line {line}"),
-    }
-}
-
-fn main(rt: HostRuntime) -> io::Result<ExitCode> {
-    let words = words(&rt)?;
+fn main(rt: HostRuntime) -> ExitCode {
+    let Ok(words) = words(&rt) else {
+        return end(&rt, Status::OutOfMemory);
+    };
     let Ok(rack) = sim_devices::rack(rt.alloc(), DEVICES) else {
-        tell(&rt, Status::OutOfMemory)?;
-        return Ok(ExitCode::from(OUT_OF_MEMORY));
+        return end(&rt, Status::OutOfMemory);
     };
     let mut source = Reading::new(rt.reader());
     let mut sink = Writing::new(io::writer(&rt));
@@ -65,6 +45,5 @@ fn main(rt: HostRuntime) -> io::Result<ExitCode> {
         rack,
         &NoGate,
     );
-    tell(&rt, outcome.status)?;
-    Ok(ExitCode::from(code_of(outcome.status)))
+    end(&rt, outcome.status)
 }

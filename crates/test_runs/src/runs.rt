@@ -1,8 +1,9 @@
 use anyhow::Result;
-use st_lines::{MemorySink, MemorySource};
-use st_model::NoGate;
-use st_session::{Status, run_words};
+use st_lines::{Limit, MemorySink, MemorySource};
+use st_model::{Gate, NoGate};
+use st_session::{Status, exit_status, run_words, status_line};
 use std::alloc::Global;
+use std::sync::atomic::{AtomicU64, Ordering};
 
 /// A script, and what it prints on a rack of so many devices.
 struct Row {
@@ -13,71 +14,148 @@ struct Row {
     output: &'static str,
 }
 
-const ROWS: [Row; 9] = [
+const ROWS: [Row; 10] = [
     Row {
         name: "no line",
         trace: false,
         devices: 12,
-        input: "",
-        output: "summary lines 0 ok 0 refused 0 written 0 read 0\n",
+        input: r#""#,
+        output: r#"summary lines 0 ok 0 refused 0 written 0 read 0
+"#,
     },
     Row {
         name: "the same pool again, then with one device more",
         trace: false,
         devices: 2,
-        input: "{\"call\":\"CreatePool\",\"name\":\"p\",\"devices\":[\"/dev/sim0\"]}\n{\"call\":\"CreatePool\",\"name\":\"p\",\"devices\":[\"/dev/sim0\"]}\n{\"call\":\"CreatePool\",\"name\":\"p\",\"devices\":[\"/dev/sim0\",\"/dev/sim1\"]}\n",
-        output: "{\"code\":0,\"line\":1,\"result\":[true,[\"00000000-0000-0001-0100-000000000000\",[\"/dev/sim0\"]]],\"text\":\"\"}\n{\"code\":0,\"line\":2,\"result\":[false,null],\"text\":\"\"}\n{\"code\":5,\"line\":3,\"result\":null,\"text\":\"NameInUse\"}\nsummary lines 3 ok 2 refused 1 written 0 read 0\n",
+        input: r#"{"call":"CreatePool","name":"p","devices":["/dev/sim0"]}
+{"call":"CreatePool","name":"p","devices":["/dev/sim0"]}
+{"call":"CreatePool","name":"p","devices":["/dev/sim0","/dev/sim1"]}
+"#,
+        output: r#"{"code":0,"line":1,"result":[true,["00000000-0000-0001-0100-000000000000",["/dev/sim0"]]],"text":""}
+{"code":0,"line":2,"result":[false,null],"text":""}
+{"code":5,"line":3,"result":null,"text":"NameInUse"}
+summary lines 3 ok 2 refused 1 written 0 read 0
+"#,
     },
     Row {
         name: "a device named twice",
         trace: false,
         devices: 1,
-        input: "{\"call\":\"CreatePool\",\"name\":\"p\",\"devices\":[\"/dev/sim0\",\"/dev/sim0\"]}",
-        output: "{\"code\":0,\"line\":1,\"result\":[true,[\"00000000-0000-0001-0100-000000000000\",[\"/dev/sim0\"]]],\"text\":\"\"}\nsummary lines 1 ok 1 refused 0 written 0 read 0\n",
+        input: r#"{"call":"CreatePool","name":"p","devices":["/dev/sim0","/dev/sim0"]}"#,
+        output: r#"{"code":0,"line":1,"result":[true,["00000000-0000-0001-0100-000000000000",["/dev/sim0"]]],"text":""}
+summary lines 1 ok 1 refused 0 written 0 read 0
+"#,
     },
     Row {
         name: "a report with its trace",
         trace: true,
         devices: 1,
-        input: "{\"call\":\"EngineStateReport\"}\n",
-        output: "{\"code\":0,\"line\":1,\"result\":{\"free_devices\":[\"/dev/sim0\"],\"next_serial\":1,\"pools\":[]},\"text\":\"\"}\n{\"event\":\"arrive\",\"seat\":1,\"ticket\":0,\"want\":[\"all\",\"read\"]}\n{\"event\":\"grant\",\"seat\":1,\"ticket\":0}\n{\"entries\":[{\"call\":{\"call\":\"EngineStateReport\"},\"env\":\"none\",\"from\":1,\"reply\":{\"code\":0,\"result\":{\"free_devices\":[\"/dev/sim0\"],\"next_serial\":1,\"pools\":[]},\"text\":\"\"}}],\"event\":\"release\",\"seat\":1,\"ticket\":0}\nsummary lines 1 ok 1 refused 0 written 0 read 0\n",
+        input: r#"{"call":"EngineStateReport"}
+"#,
+        output: r#"{"code":0,"line":1,"result":{"free_devices":["/dev/sim0"],"next_serial":1,"pools":[]},"text":""}
+{"event":"arrive","seat":1,"ticket":0,"want":["all","read"]}
+{"event":"grant","seat":1,"ticket":0}
+{"entries":[{"call":{"call":"EngineStateReport"},"env":"none","from":1,"reply":{"code":0,"result":{"free_devices":["/dev/sim0"],"next_serial":1,"pools":[]},"text":""}}],"event":"release","seat":1,"ticket":0}
+summary lines 1 ok 1 refused 0 written 0 read 0
+"#,
     },
     Row {
         name: "a pool and the report, on twelve devices",
         trace: false,
         devices: 12,
-        input: "{\"call\":\"CreatePool\",\"name\":\"p\",\"devices\":[\"/dev/sim0\"]}\n{\"call\":\"EngineStateReport\"}\n",
-        output: "{\"code\":0,\"line\":1,\"result\":[true,[\"00000000-0000-0001-0100-000000000000\",[\"/dev/sim0\"]]],\"text\":\"\"}\n{\"code\":0,\"line\":2,\"result\":{\"free_devices\":[\"/dev/sim1\",\"/dev/sim10\",\"/dev/sim11\",\"/dev/sim2\",\"/dev/sim3\",\"/dev/sim4\",\"/dev/sim5\",\"/dev/sim6\",\"/dev/sim7\",\"/dev/sim8\",\"/dev/sim9\"],\"next_serial\":2,\"pools\":[{\"mode\":\"up\",\"name\":\"p\",\"uuid\":\"00000000-0000-0001-0100-000000000000\"}]},\"text\":\"\"}\nsummary lines 2 ok 2 refused 0 written 0 read 0\n",
+        input: r#"{"call":"CreatePool","name":"p","devices":["/dev/sim0"]}
+{"call":"EngineStateReport"}
+"#,
+        output: r#"{"code":0,"line":1,"result":[true,["00000000-0000-0001-0100-000000000000",["/dev/sim0"]]],"text":""}
+{"code":0,"line":2,"result":{"free_devices":["/dev/sim1","/dev/sim10","/dev/sim11","/dev/sim2","/dev/sim3","/dev/sim4","/dev/sim5","/dev/sim6","/dev/sim7","/dev/sim8","/dev/sim9"],"next_serial":2,"pools":[{"mode":"up","name":"p","uuid":"00000000-0000-0001-0100-000000000000"}]},"text":""}
+summary lines 2 ok 2 refused 0 written 0 read 0
+"#,
     },
     Row {
         name: "refusals of a new pool",
         trace: false,
         devices: 1,
-        input: "{\"call\":\"CreatePool\",\"name\":\"p\",\"devices\":[]}\n{\"call\":\"CreatePool\",\"name\":\"p\",\"devices\":[\"/dev/none\"]}\n{\"call\":\"CreatePool\",\"name\":\"p\",\"devices\":[\"/dev/sim0\"]}\n{\"call\":\"CreatePool\",\"name\":\"q\",\"devices\":[\"/dev/sim0\"]}\n",
-        output: "{\"code\":3,\"line\":1,\"result\":null,\"text\":\"EmptyDevices\"}\n{\"code\":4,\"line\":2,\"result\":null,\"text\":\"NoSuchDevice path=/dev/none\"}\n{\"code\":0,\"line\":3,\"result\":[true,[\"00000000-0000-0001-0100-000000000000\",[\"/dev/sim0\"]]],\"text\":\"\"}\n{\"code\":6,\"line\":4,\"result\":null,\"text\":\"DeviceInUse path=/dev/sim0 pool=p\"}\nsummary lines 4 ok 1 refused 3 written 0 read 0\n",
+        input: r#"{"call":"CreatePool","name":"p","devices":[]}
+{"call":"CreatePool","name":"p","devices":["/dev/none"]}
+{"call":"CreatePool","name":"p","devices":["/dev/sim0"]}
+{"call":"CreatePool","name":"q","devices":["/dev/sim0"]}
+"#,
+        output: r#"{"code":3,"line":1,"result":null,"text":"EmptyDevices"}
+{"code":4,"line":2,"result":null,"text":"NoSuchDevice path=/dev/none"}
+{"code":0,"line":3,"result":[true,["00000000-0000-0001-0100-000000000000",["/dev/sim0"]]],"text":""}
+{"code":6,"line":4,"result":null,"text":"DeviceInUse path=/dev/sim0 pool=p"}
+summary lines 4 ok 1 refused 3 written 0 read 0
+"#,
     },
     Row {
-        name: "a call that isn't built, whatever its members",
+        name: "a call that the engine doesn't run yet",
         trace: true,
         devices: 1,
-        input: "{\"call\":\"Check\",\"pool\":7}\n",
-        output: "{\"code\":30,\"line\":1,\"result\":null,\"text\":\"NotBuilt call=Check\"}\nsummary lines 1 ok 0 refused 1 written 0 read 0\n",
+        input: r#"{"call":"Check","pool":"p"}
+"#,
+        output: r#"{"code":30,"line":1,"result":null,"text":"NotBuilt call=Check"}
+summary lines 1 ok 0 refused 1 written 0 read 0
+"#,
     },
     Row {
         name: "lines that are no calls",
         trace: false,
         devices: 1,
-        input: "{\"call\"\n\n[]\n{\"call\":\"PowerCycle\"}\n{\"call\":\"EngineStateReport\",\"lane\":1}\n{\"call\":\"CreatePool\",\"name\":\"a/b\",\"devices\":[\"/dev/sim0\"]}\n",
-        output: "{\"code\":1,\"line\":1,\"result\":null,\"text\":\"BadCall member=line\"}\n{\"code\":1,\"line\":2,\"result\":null,\"text\":\"BadCall member=line\"}\n{\"code\":1,\"line\":3,\"result\":null,\"text\":\"BadCall member=line\"}\n{\"code\":1,\"line\":4,\"result\":null,\"text\":\"BadCall member=line\"}\n{\"code\":1,\"line\":5,\"result\":null,\"text\":\"BadCall member=line\"}\n{\"code\":1,\"line\":6,\"result\":null,\"text\":\"BadCall member=line\"}\nsummary lines 6 ok 0 refused 6 written 0 read 0\n",
+        input: r#"{"call"
+
+[]
+{"call":"PowerCycle"}
+{"call":"EngineStateReport","lane":8}
+{"call":"CreatePool","name":"a/b","devices":["/dev/sim0"]}
+"#,
+        output: r#"{"code":1,"line":1,"result":null,"text":"BadCall member=line"}
+{"code":1,"line":2,"result":null,"text":"BadCall member=line"}
+{"code":1,"line":3,"result":null,"text":"BadCall member=line"}
+{"code":1,"line":4,"result":null,"text":"BadCall member=call"}
+{"code":1,"line":5,"result":null,"text":"BadCall member=lane"}
+{"code":2,"line":6,"result":null,"text":"BadName member=name"}
+summary lines 6 ok 0 refused 6 written 0 read 0
+"#,
     },
     Row {
         name: "an unknown member, and a member that stands twice",
         trace: false,
         devices: 1,
-        input: "{\"call\":\"Check\",\"call\":\"EngineStateReport\",\"colour\":3}",
-        output: "{\"code\":0,\"line\":1,\"result\":{\"free_devices\":[\"/dev/sim0\"],\"next_serial\":1,\"pools\":[]},\"text\":\"\"}\nsummary lines 1 ok 1 refused 0 written 0 read 0\n",
+        input: r#"{"call":"Check","call":"EngineStateReport","colour":3}"#,
+        output: r#"{"code":0,"line":1,"result":{"free_devices":["/dev/sim0"],"next_serial":1,"pools":[]},"text":""}
+summary lines 1 ok 1 refused 0 written 0 read 0
+"#,
+    },
+    Row {
+        name: "two lanes, each by its own seat",
+        trace: true,
+        devices: 1,
+        input: r#"{"call":"EngineStateReport","lane":1}
+{"call":"EngineStateReport"}
+"#,
+        output: r#"{"code":0,"line":1,"result":{"free_devices":["/dev/sim0"],"next_serial":1,"pools":[]},"text":""}
+{"code":0,"line":2,"result":{"free_devices":["/dev/sim0"],"next_serial":1,"pools":[]},"text":""}
+{"event":"arrive","seat":2,"ticket":0,"want":["all","read"]}
+{"event":"grant","seat":2,"ticket":0}
+{"entries":[{"call":{"call":"EngineStateReport"},"env":"none","from":1,"reply":{"code":0,"result":{"free_devices":["/dev/sim0"],"next_serial":1,"pools":[]},"text":""}}],"event":"release","seat":2,"ticket":0}
+{"event":"arrive","seat":1,"ticket":1,"want":["all","read"]}
+{"event":"grant","seat":1,"ticket":1}
+{"entries":[{"call":{"call":"EngineStateReport"},"env":"none","from":2,"reply":{"code":0,"result":{"free_devices":["/dev/sim0"],"next_serial":1,"pools":[]},"text":""}}],"event":"release","seat":1,"ticket":1}
+summary lines 2 ok 2 refused 0 written 0 read 0
+"#,
     },
 ];
+
+/// Counts how often it is passed.
+struct Counting {
+    passes: AtomicU64,
+}
+
+impl Gate for Counting {
+    fn pass(&self, _line: u64) {
+        let _before = self.passes.fetch_add(1, Ordering::SeqCst);
+    }
+}
 
 fn words(alloc: Global, trace: bool) -> Result<Vec<String>> {
     let mut list = Vec::new(alloc);
@@ -104,7 +182,7 @@ fn each_row_prints_its_bytes(rt: HostRuntime) -> Result<()> {
             panic!(rt; "out of memory");
         };
         let outcome = run_words(&rt, alloc, &words, &mut source, &mut sink, rack, &NoGate);
-        assert_eq!(rt; outcome.status, Status::Done, "{}", row.name);
+        assert_eq!(rt; exit_status(outcome.status), 0, "{}", row.name);
         assert_eq!(rt; sink.bytes(), row.output.as_bytes(), "{}", row.name);
     }
     Ok(())
@@ -120,7 +198,7 @@ fn a_wrong_word_is_usage(rt: HostRuntime) -> Result<()> {
         panic!(rt; "out of memory");
     };
     let outcome = run_words(&rt, alloc, &words, &mut source, &mut sink, rack, &NoGate);
-    assert_eq!(rt; outcome.status, Status::Usage);
+    assert_eq!(rt; exit_status(outcome.status), 2);
     assert_eq!(rt; sink.bytes(), b"".as_slice());
     Ok(())
 }
@@ -137,7 +215,7 @@ fn a_source_that_fails_is_a_read_fault(rt: HostRuntime) -> Result<()> {
         panic!(rt; "out of memory");
     };
     let outcome = run_words(&rt, alloc, &words, &mut source, &mut sink, rack, &NoGate);
-    assert_eq!(rt; outcome.status, Status::ReadFault);
+    assert_eq!(rt; exit_status(outcome.status), 3);
     assert_eq!(rt; sink.bytes(), b"".as_slice());
     Ok(())
 }
@@ -152,7 +230,72 @@ fn a_sink_that_fails_has_a_prefix(rt: HostRuntime) -> Result<()> {
         panic!(rt; "out of memory");
     };
     let outcome = run_words(&rt, alloc, &words, &mut source, &mut sink, rack, &NoGate);
-    assert_eq!(rt; outcome.status, Status::WriteFault);
+    assert_eq!(rt; exit_status(outcome.status), 4);
     assert_eq!(rt; sink.bytes(), b"summary lines 0 ".as_slice());
+    Ok(())
+}
+
+#[test]
+fn the_gate_is_passed_once_a_call(rt: HostRuntime) -> Result<()> {
+    let alloc = rt.alloc();
+    let words = words(alloc, false)?;
+    let input = r#"{"call":"EngineStateReport"}
+{"call":"Check","pool":"p"}
+{"call"
+{"call":"EngineStateReport"}
+"#;
+    let mut source = source(alloc, input, Vec::new(alloc))?;
+    let mut sink = MemorySink::new(alloc, 1000, Vec::new(alloc));
+    let Ok(rack) = sim_devices::rack(alloc, 1) else {
+        panic!(rt; "out of memory");
+    };
+    let gate = Counting {
+        passes: AtomicU64::new(0),
+    };
+    let outcome = run_words(&rt, alloc, &words, &mut source, &mut sink, rack, &gate);
+    assert_eq!(rt; exit_status(outcome.status), 0);
+    assert_eq!(rt; gate.passes.load(Ordering::SeqCst), 2);
+    Ok(())
+}
+
+#[test]
+fn words_that_are_not_served_yet_are_usage(rt: HostRuntime) -> Result<()> {
+    let alloc = rt.alloc();
+    for mode in ["check", "gen"] {
+        let words = vec![in alloc; String::from_str(alloc, mode)?]?;
+        let mut source = source(alloc, "", Vec::new(alloc))?;
+        let mut sink = MemorySink::new(alloc, 1000, Vec::new(alloc));
+        let Ok(rack) = sim_devices::rack(alloc, 1) else {
+            panic!(rt; "out of memory");
+        };
+        let outcome = run_words(&rt, alloc, &words, &mut source, &mut sink, rack, &NoGate);
+        assert_eq!(rt; exit_status(outcome.status), 2, "{}", mode);
+    }
+    Ok(())
+}
+
+#[test]
+fn each_status_has_its_line(rt: HostRuntime) -> Result<()> {
+    let alloc = rt.alloc();
+    let rows = [
+        (Status::ReadFault, 3, "read fault"),
+        (Status::WriteFault, 4, "write fault"),
+        (Status::OutOfMemory, 5, "out of memory"),
+        (Status::InputLimit(Limit::Bytes), 6, "input limit: bytes"),
+        (Status::InputLimit(Limit::Lines), 6, "input limit: lines"),
+        (
+            Status::InputLimit(Limit::Line(17)),
+            6,
+            "input limit: line 17",
+        ),
+        (Status::OpenFault, 7, "open fault"),
+    ];
+    for (status, exit, text) in rows {
+        assert_eq!(rt; exit_status(status), exit, "{}", text);
+        let Ok(Some(line)) = status_line(alloc, status) else {
+            panic!(rt; "no line");
+        };
+        assert_eq!(rt; line.as_str(), text);
+    }
     Ok(())
 }

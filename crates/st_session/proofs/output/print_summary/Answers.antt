@@ -1,5 +1,5 @@
 use Rattle.std.proofs.Common.{ℕ, List, ◌∙◌, subst}
-use Rattle.st_session.specs.Printing.{Stops}
+use Rattle.st_session.specs.inner.Printing.{Stops}
 use Rattle.st_session.proofs.Printed.{on_err}
 use Rattle.st_session.proofs.output.print_summary.Goals as goal
 

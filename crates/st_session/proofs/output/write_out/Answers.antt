@@ -1,6 +1,6 @@
 use Rattle.std.proofs.Common.{◌≡◌, ℕ, List, [], ◌++◌, length, sym, ap, append-nil}
 use Rattle.st_session.specs.Out.{trace_of, summary}
-use Rattle.st_session.specs.Printing.{Printing, shown_oks, whole}
+use Rattle.st_session.specs.inner.Printing.{Printing, shown_oks, whole}
 use Rattle.st_session.proofs.Printed.{on_err, printing_as, printing_start, printing_cut_end, printing_end}
 use Rattle.st_session.proofs.output.write_out.Goals as goal
 

@@ -1,5 +1,5 @@
 use Rattle.st_session.proofs.Parts.{created, reported}
-use Rattle.st_session.proofs.part.answer_on.Goals as goal
+use Rattle.st_session.proofs.on_part.answer_on.Goals as goal
 
 pub returns-in-CreatePool-clause-ok : goal.returns-in-CreatePool-clause-ok
 returns-in-CreatePool-clause-ok c =

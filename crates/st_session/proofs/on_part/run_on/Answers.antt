@@ -1,6 +1,6 @@
-use Rattle.st_session.specs.OnPart.{IsLeft}
+use Rattle.st_session.specs.inner.OnPart.{IsLeft}
 use Rattle.st_session.proofs.Parts.{if_ok, ran}
-use Rattle.st_session.proofs.part.run_on.Goals as goal
+use Rattle.st_session.proofs.on_part.run_on.Goals as goal
 
 pub returns : goal.returns
 returns c = λ s valid stands shows.

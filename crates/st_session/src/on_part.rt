@@ -11,9 +11,10 @@ ghost use Rattle.st_model.specs.Answer.{refused};
 ghost use Rattle.st_model.specs.Valid.{IsValid};
 ghost use Rattle.st_model.specs.Wanted.{want_of};
 ghost use Rattle.st_book.specs.Stands.{PartStands, PartShows};
-ghost use Rattle.st_plain.specs.Parts.{PartIs, InfosAre, IsAnswered};
+ghost use Rattle.st_model.specs.Pieces.{ShowPools, every};
+ghost use Rattle.st_plain.specs.Parts.{PartIs, IsAnswered};
 ghost use Rattle.st_plain.specs.Views.{pools_of};
-ghost use Rattle.st_session.specs.OnPart.{plain_view, IsLeft, IsRun};
+ghost use Rattle.st_session.specs.inner.OnPart.{plain_view, IsLeft, IsRun};
 
 use st_book::{InfoList, Part};
 use st_model::{Call, Entry, Env, Origin, PoolInfo, Reply, TableInfo};
@@ -31,7 +32,7 @@ struct Answered {
 }
 
 /// A part after a call, and the call's entry.
-pub(crate) struct Ran {
+pub(crate) struct DoneCall {
     pub part: PlainPart,
     pub entry: Entry,
 }
@@ -72,7 +73,7 @@ fn report_shown(
     table_info: Option<Shared<TableInfo>>,
     infos: InfoList<PoolInfo>,
 ) -> Result<Reply, NoMemory>
-    ensures { IfOk result (λ reply. IsSomeAnd table_info (λ i. (s : EngineState) → IsValid s → i ≡ shown_table (table_of s) → InfosAre s infos.items → reply ≡ (step s EngineStateReport Plain).0)) }
+    ensures { IfOk result (λ reply. IsSomeAnd table_info (λ i. (s : EngineState) → IsValid s → i ≡ shown_table (table_of s) → ShowPools every s infos.items → reply ≡ (step s EngineStateReport Plain).0)) }
 {
     let Some(info) = table_info else {
         return Err(NoMemory);
@@ -81,7 +82,7 @@ fn report_shown(
 }
 
 fn report_on(alloc: Global, part: PlainPart) -> Answered
-    ensures ok { IfOk result.answer (λ reply. IsSomeAnd part.table_info (λ i. (s : EngineState) → IsValid s → i ≡ shown_table (table_of s) → InfosAre s part.infos.items → reply ≡ (step s EngineStateReport Plain).0)) }
+    ensures ok { IfOk result.answer (λ reply. IsSomeAnd part.table_info (λ i. (s : EngineState) → IsValid s → i ≡ shown_table (table_of s) → ShowPools every s part.infos.items → reply ≡ (step s EngineStateReport Plain).0)) }
     ensures cells { result.part.cells.items ≡ part.cells.items }
     ensures table { result.part.table ≡ part.table }
 {
@@ -140,7 +141,7 @@ fn entry_of(number: u64, call: Call, answer: Result<Reply, NoMemory>) -> Entry
 
 /// Runs the call of a line on the part that a ticket for it holds, and tells what it met: nothing,
 /// or want of memory.
-pub(crate) fn run_on(alloc: Global, number: u64, call: Call, part: PlainPart) -> Ran
+pub(crate) fn run_on(alloc: Global, number: u64, call: Call, part: PlainPart) -> DoneCall
     requires built { is_built call ≡ true }
     requires short { part.short ≡ true → part.table_info ≡ None }
     requires stands { (s : EngineState) × IsValid s × PartStands (want_of call) s (pools_of part.cells.items) (option_map plain_view part.table) }
@@ -148,7 +149,7 @@ pub(crate) fn run_on(alloc: Global, number: u64, call: Call, part: PlainPart) ->
         → (part.short ≡ false → PartShows (want_of call) s part.infos.items part.table_info) → IsRun s number call result.entry result.part.cells.items result.part.table }
 {
     let Answered { part, answer } = answer_on(alloc, &call, part);
-    Ran {
+    DoneCall {
         part,
         entry: entry_of(number, call, answer),
     }

@@ -6,25 +6,20 @@ use Rattle.st_model.specs.declared.entry.Entry.{Entry}
 use Rattle.st_history.specs.declared.log.Event.{Event}
 use Rattle.st_model.specs.declared.reply.Reply.{Reply}
 use Rattle.st_model.specs.Answer.{refused}
-use Rattle.st_replies.specs.Shown.{reply_line}
+use Rattle.st_calls.specs.Names.{call_word}
+use Rattle.st_replies.specs.Shown.{reply_line, not_built_line}
 use Rattle.st_session.specs.declared.session.Answer.{Answer}
-use Rattle.st_session.specs.declared.session.Answer.TheVariants.{Ran, Fault, Refused}
+use Rattle.st_session.specs.declared.session.Answer.TheVariants.{Ran, Fault, NotBuilt, Refused}
 use Rattle.st_session.specs.Entries.{entries_of, entry_of}
 use Rattle.st_session.specs.Out.{fault_line, entered_line, is_ok, trace_of, summary}
-use Rattle.st_session.specs.Running.{IsRelease}
+use Rattle.st_session.specs.Statuses.{Started}
+use Rattle.st_session.specs.inner.Running.{IsRelease}
 
 -- the sink took the front of the whole, then come the bytes that wait, and then the rest
 pub record Printing (before now : Option (List ℕ)) (waiting rest whole : List ℕ) : Type 0 where
   pub written : List ℕ
   pub took : Appends before now written
   pub makes : written ++ (waiting ++ rest) ≡ whole
-
--- the sink took a prefix of the whole
-pub record Started (before now : Option (List ℕ)) (whole : List ℕ) : Type 0 where
-  pub written : List ℕ
-  pub rest : List ℕ
-  pub took : Appends before now written
-  pub makes : written ++ rest ≡ whole
 
 -- the text is printed, whatever comes before and behind it
 abbrev pub Prints : Option (List ℕ) → List ℕ → Option (List ℕ) → List ℕ → List ℕ → Type 0
@@ -42,17 +37,20 @@ entry_line n (Some e) = entered_line n e
 abbrev pub shown_line : ℕ → List Event → Answer → List ℕ
 shown_line n log (Ran place) = entry_line n (entry_of n (entries_of log))
 shown_line n log (Fault fault) = fault_line n fault
+shown_line n log (NotBuilt call) = not_built_line n (call_word call)
 shown_line n log Refused = reply_line n (refused causes.OutOfMemory)
 
 abbrev pub shown_ok : ℕ → List Event → Answer → Bool
 shown_ok n log (Ran place) = is_ok (entry_of n (entries_of log))
 shown_ok n log (Fault fault) = false
+shown_ok n log (NotBuilt call) = false
 shown_ok n log Refused = false
 
 -- an answer that speaks of a place of the log speaks of line n's release
 abbrev pub IsShown : ℕ → List Event → Answer → Type 0
 IsShown n log (Ran place) = IsRelease n log place
 IsShown n log (Fault fault) = Unit {0}
+IsShown n log (NotBuilt call) = Unit {0}
 IsShown n log Refused = Unit {0}
 
 abbrev pub AreShown : ℕ → List Event → List Answer → Type 0

@@ -1,0 +1,5 @@
+pub mod Going
+pub mod OnPart
+pub mod Printing
+pub mod Running
+pub mod View
