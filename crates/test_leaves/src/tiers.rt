@@ -5,8 +5,8 @@ ghost use Rattle.st_seg.specs.Blocks.{blocks_from};
 ghost use Rattle.st_seg.specs.Stock.{empty_stock, with_blocks};
 
 use st_datatier::DataTier;
-use st_limits::is_device_size;
 use st_grow::{extension, grown};
+use st_limits::is_device_size;
 use st_linear::LinearTable;
 use st_seg::{SegAlloc, SegFault};
 use st_units::{DevPath, DevRow, DevRows, NoMemory, SegList, Tier};
