@@ -138,12 +138,12 @@ part_with : (s : EngineState) (name : Text) (paths : List Text) (ps : List PoolS
 part_with s name paths ps t part fresh = record {
   pools = record {
     apart =
-      let none : pool_at name ps ≡ None = part.pools.found name ∙ none_called name s.pools (create_fresh s name paths fresh).names in
-      let new_name : list_any (bytes_eq name) (pool_names ps) ≡ false = named name ps ∙ ap is_some none in
-      subst (IsDistinct bytes_eq) (sym (map-append (λ (p : PoolState). p.name) ps (q ∷ []))) (IsDistinct-push nat_list_eq_equiv (pool_names ps) name part.pools.apart new_name);
+        let none : pool_at name ps ≡ None = part.pools.found name ∙ none_called name s.pools (create_fresh s name paths fresh).names in
+        let new_name : list_any (bytes_eq name) (pool_names ps) ≡ false = named name ps ∙ ap is_some none in
+        subst (IsDistinct bytes_eq) (sym (map-append (λ (p : PoolState). p.name) ps (q ∷ []))) (IsDistinct-push nat_list_eq_equiv (pool_names ps) name part.pools.apart new_name);
     found = λ n.
-      find-append (is_called n) ps (q ∷ []) ∙ (ap (λ o. option_or o (pool_at n (q ∷ []))) (part.pools.found n)
-      ∙ (sym (find-append (is_called n) (started s) (q ∷ [])) ∙ ap (pool_at n) (sym (filter-append (λ (p : PoolState). is_started p.mode) s.pools (q ∷ [])))));
+        find-append (is_called n) ps (q ∷ []) ∙ (ap (λ o. option_or o (pool_at n (q ∷ []))) (part.pools.found n)
+        ∙ (sym (find-append (is_called n) (started s) (q ∷ [])) ∙ ap (pool_at n) (sym (filter-append (λ (p : PoolState). is_started p.mode) s.pools (q ∷ [])))));
   };
   board = board-is s name paths;
 }
