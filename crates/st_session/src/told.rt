@@ -7,8 +7,8 @@ use st_units::NoMemory;
 use std::alloc::Global;
 
 /// The exit status of the program.
-pub fn exit_status(status: Status) -> u8
-    ensures { result ≡ exit_of status }
+pub fn exit_status(status: &Status) -> u8
+    ensures { result ≡ exit_of status.now }
 {
     match status {
         Status::Done => 0,
@@ -23,8 +23,8 @@ pub fn exit_status(status: Status) -> u8
 }
 
 /// The line to standard error, none where the run is done.
-pub fn status_line(alloc: Global, status: Status) -> Result<Option<String>, NoMemory>
-    ensures { IfOk result (λ line. option_map string_bytes line ≡ line_of status) }
+pub fn status_line(alloc: Global, status: &Status) -> Result<Option<String>, NoMemory>
+    ensures { IfOk result (λ line. option_map string_bytes line ≡ line_of status.now) }
 {
     let line = match status {
         Status::Done => return Ok(None),
@@ -35,7 +35,7 @@ pub fn status_line(alloc: Global, status: Status) -> Result<Option<String>, NoMe
         Status::ReadFault => fixed(alloc, "read fault")?,
         Status::WriteFault => fixed(alloc, "write fault")?,
         Status::OutOfMemory => fixed(alloc, "out of memory")?,
-        Status::InputLimit(limit) => limit_line(alloc, limit)?,
+        Status::InputLimit(limit) => limit_line(alloc, *limit)?,
         Status::OpenFault => fixed(alloc, "open fault")?,
         Status::Foreign(serial) => numbered(alloc, "foreign pool ", serial.number())?,
     };

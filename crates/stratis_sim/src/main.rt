@@ -20,7 +20,7 @@ fn words(rt: &HostRuntime) -> io::Result<Vec<String>> {
 }
 
 /// Tells how the run ended, where that can be told, and gives the exit status in any case.
-fn end(rt: &HostRuntime, status: Status) -> ExitCode {
+fn end(rt: &HostRuntime, status: &Status) -> ExitCode {
     if let Ok(Some(line)) = status_line(rt.alloc(), status) {
         let _told = rt.eprintln(line.as_str());
     }
@@ -29,10 +29,10 @@ fn end(rt: &HostRuntime, status: Status) -> ExitCode {
 
 fn main(rt: HostRuntime) -> ExitCode {
     let Ok(words) = words(&rt) else {
-        return end(&rt, Status::OutOfMemory);
+        return end(&rt, &Status::OutOfMemory);
     };
     let Ok(rack) = sim_devices::rack(rt.alloc(), DEVICES) else {
-        return end(&rt, Status::OutOfMemory);
+        return end(&rt, &Status::OutOfMemory);
     };
     let mut source = Reading::new(rt.reader());
     let mut sink = Writing::new(io::writer(&rt));
@@ -45,5 +45,5 @@ fn main(rt: HostRuntime) -> ExitCode {
         rack,
         &NoGate,
     );
-    end(&rt, outcome.status)
+    end(&rt, &outcome.status)
 }

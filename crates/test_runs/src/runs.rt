@@ -182,7 +182,7 @@ fn each_row_prints_its_bytes(rt: HostRuntime) -> Result<()> {
             panic!(rt; "out of memory");
         };
         let outcome = run_words(&rt, alloc, &words, &mut source, &mut sink, rack, &NoGate);
-        assert_eq!(rt; exit_status(outcome.status), 0, "{}", row.name);
+        assert_eq!(rt; exit_status(&outcome.status), 0, "{}", row.name);
         assert_eq!(rt; sink.bytes(), row.output.as_bytes(), "{}", row.name);
     }
     Ok(())
@@ -198,7 +198,7 @@ fn a_wrong_word_is_usage(rt: HostRuntime) -> Result<()> {
         panic!(rt; "out of memory");
     };
     let outcome = run_words(&rt, alloc, &words, &mut source, &mut sink, rack, &NoGate);
-    assert_eq!(rt; exit_status(outcome.status), 2);
+    assert_eq!(rt; exit_status(&outcome.status), 2);
     assert_eq!(rt; sink.bytes(), b"".as_slice());
     Ok(())
 }
@@ -215,7 +215,7 @@ fn a_source_that_fails_is_a_read_fault(rt: HostRuntime) -> Result<()> {
         panic!(rt; "out of memory");
     };
     let outcome = run_words(&rt, alloc, &words, &mut source, &mut sink, rack, &NoGate);
-    assert_eq!(rt; exit_status(outcome.status), 3);
+    assert_eq!(rt; exit_status(&outcome.status), 3);
     assert_eq!(rt; sink.bytes(), b"".as_slice());
     Ok(())
 }
@@ -230,7 +230,7 @@ fn a_sink_that_fails_has_a_prefix(rt: HostRuntime) -> Result<()> {
         panic!(rt; "out of memory");
     };
     let outcome = run_words(&rt, alloc, &words, &mut source, &mut sink, rack, &NoGate);
-    assert_eq!(rt; exit_status(outcome.status), 4);
+    assert_eq!(rt; exit_status(&outcome.status), 4);
     assert_eq!(rt; sink.bytes(), b"summary lines 0 ".as_slice());
     Ok(())
 }
@@ -253,7 +253,7 @@ fn the_gate_is_passed_once_a_call(rt: HostRuntime) -> Result<()> {
         passes: AtomicU64::new(0),
     };
     let outcome = run_words(&rt, alloc, &words, &mut source, &mut sink, rack, &gate);
-    assert_eq!(rt; exit_status(outcome.status), 0);
+    assert_eq!(rt; exit_status(&outcome.status), 0);
     assert_eq!(rt; gate.passes.load(Ordering::SeqCst), 2);
     Ok(())
 }
@@ -269,7 +269,7 @@ fn words_that_are_not_served_yet_are_usage(rt: HostRuntime) -> Result<()> {
             panic!(rt; "out of memory");
         };
         let outcome = run_words(&rt, alloc, &words, &mut source, &mut sink, rack, &NoGate);
-        assert_eq!(rt; exit_status(outcome.status), 2, "{}", mode);
+        assert_eq!(rt; exit_status(&outcome.status), 2, "{}", mode);
     }
     Ok(())
 }
@@ -291,8 +291,8 @@ fn each_status_has_its_line(rt: HostRuntime) -> Result<()> {
         (Status::OpenFault, 7, "open fault"),
     ];
     for (status, exit, text) in rows {
-        assert_eq!(rt; exit_status(status), exit, "{}", text);
-        let Ok(Some(line)) = status_line(alloc, status) else {
+        assert_eq!(rt; exit_status(&status), exit, "{}", text);
+        let Ok(Some(line)) = status_line(alloc, &status) else {
             panic!(rt; "no line");
         };
         assert_eq!(rt; line.as_str(), text);
