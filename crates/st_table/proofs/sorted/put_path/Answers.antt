@@ -4,7 +4,7 @@ use Rattle.std.specs.List.{list_any}
 use Rattle.st_model.specs.Look.{Text, has_path}
 use Rattle.st_table.specs.Sorted.{IsRising, entered}
 use Rattle.st_table.proofs.Order.{eq_same, any_entered, rising_entered}
-use Rattle.st_table.proofs.Marks.{any_found}
+use Rattle.st_table.proofs.Changes.{any_found}
 use Rattle.st_table.proofs.sorted.put_path.Goals as goal
 
 same_text : Text → Text

@@ -6,7 +6,7 @@ use Rattle.st_model.specs.Look.{Text, is_name_of}
 use Rattle.st_table.specs.declared.pool.Pool.{Pool}
 use Rattle.st_table.specs.Table.{pool_named, is_taken}
 use Rattle.st_table.specs.inner.Sound.{RosterView, table_pool, new_held}
-use Rattle.st_table.proofs.Marks.{taken_told}
+use Rattle.st_table.proofs.Changes.{taken_told}
 use Rattle.st_table.proofs.roster.Roster.is_taken.Goals as goal
 
 told : (found : Option (Bor Pool)) → is_some (option_map table_pool (option_copied found)) ≡ is_some found

@@ -1,5 +1,5 @@
 use Rattle.std.proofs.Common.{sym}
-use Rattle.st_table.proofs.Marks.{pools_rise, found_in, pool_found, pool_absent}
+use Rattle.st_table.proofs.Changes.{pools_rise, found_in, pool_found, pool_absent}
 use Rattle.st_table.proofs.roster.Roster.pool.Goals as goal
 
 pub search-requires : goal.search-requires

@@ -1,5 +1,5 @@
 use Rattle.std.proofs.Common.{sym}
-use Rattle.st_table.proofs.Marks.{row_found, row_absent}
+use Rattle.st_table.proofs.Changes.{row_found, row_absent}
 use Rattle.st_table.proofs.roster.Roster.row.Goals as goal
 
 pub returns-in-Ok : goal.returns-in-Ok

@@ -2,7 +2,8 @@ use Rattle.std.proofs.lemmas.List.{length-map}
 use Rattle.std.proofs.Common.{◌≡◌, ap, sym, ◌∙◌, map, Some, None, length, take, drop, ◌++◌}
 use Rattle.st_table.specs.Table.{pool_named, without, knows}
 use Rattle.st_table.specs.inner.Sound.{RosterView, table_pool, row_in, marked, devices_held}
-use Rattle.st_table.proofs.Marks.{whole, pools_rise, found_in, pool_found, pool_absent, pools_left, known_is_found, rows_kept, taken_out, free_left, name_gone, serial_gone, named_so}
+use Rattle.st_table.proofs.Changes.{whole, pools_rise, found_in, pool_found, pool_absent, pools_left, known_is_found, named_so}
+use Rattle.st_table.proofs.Marks.{rows_kept, taken_out, free_left, name_gone, serial_gone}
 use Rattle.st_table.proofs.roster.Roster.take_out.Goals as goal
 
 pub search-requires : goal.search-requires

@@ -4,7 +4,7 @@ use Rattle.st_model.specs.Look.{row_of}
 use Rattle.st_table.specs.declared.pool.Pool.{Pool}
 use Rattle.st_table.specs.Table.{TablePool}
 use Rattle.st_table.specs.inner.Sound.{RosterView, table_pool, row_in}
-use Rattle.st_table.proofs.Marks.{row_absent, user_told_by}
+use Rattle.st_table.proofs.Changes.{row_absent, user_told_by}
 use Rattle.st_table.proofs.roster.Roster.user_of.Goals as goal
 
 twice : (o : Option Pool) → option_map (λ (pool : Pool). (table_pool pool).known) o ≡ option_map (λ (pool : TablePool). pool.known) (option_map table_pool o)

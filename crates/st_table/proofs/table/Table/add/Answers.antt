@@ -1,6 +1,6 @@
 use Rattle.std.proofs.Common.{ap, ◌∙◌}
 use Rattle.st_table.specs.Table.{TableView, is_taken}
-use Rattle.st_table.proofs.Marks.{not_taken}
+use Rattle.st_table.proofs.Changes.{not_taken}
 use Rattle.st_table.proofs.table.Table.add.Goals as goal
 
 pub put_in-requires-clause-name : goal.put_in-requires-clause-name

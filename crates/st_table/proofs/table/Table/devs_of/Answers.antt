@@ -2,7 +2,7 @@ use Rattle.std.proofs.Common.{ap, sym, ◌∙◌}
 use Rattle.std.specs.Prelude.{option_map, option_copied}
 use Rattle.st_table.specs.Table.{TableView, knows}
 use Rattle.st_table.specs.inner.Sound.{table_pool}
-use Rattle.st_table.proofs.Marks.{known_is_found}
+use Rattle.st_table.proofs.Changes.{known_is_found}
 use Rattle.st_table.proofs.table.Table.devs_of.Goals as goal
 
 pub unreachable-requires : goal.unreachable-requires

@@ -1,6 +1,6 @@
 use Rattle.std.proofs.Common.{ap, ◌∙◌}
 use Rattle.st_table.specs.Table.{TableView, TablePool, knows, runs}
-use Rattle.st_table.proofs.Marks.{runs_known, runs_started}
+use Rattle.st_table.proofs.Changes.{runs_known, runs_started}
 use Rattle.st_table.proofs.table.Table.hold.Goals as goal
 
 pub take_out-pool-requires : goal.take_out-pool-requires

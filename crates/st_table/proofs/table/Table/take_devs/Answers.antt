@@ -2,7 +2,7 @@ use Rattle.std.proofs.Common.{◌≡◌, ◌++◌, ap, sym, ◌∙◌, subst, So
 use Rattle.std.specs.List.{AllByRecursion}
 use Rattle.st_table.specs.Table.{TableView, TablePool, IsFree, knows, runs, pool_named}
 use Rattle.st_table.specs.inner.Sound.{table_pool, devices_held}
-use Rattle.st_table.proofs.Marks.{runs_known, runs_started, both_free}
+use Rattle.st_table.proofs.Changes.{runs_known, runs_started, both_free}
 use Rattle.st_table.proofs.table.Table.take_devs.Goals as goal
 
 pub take_out-pool-requires : goal.take_out-pool-requires
