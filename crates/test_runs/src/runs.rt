@@ -147,6 +147,7 @@ summary lines 2 ok 2 refused 0 written 0 read 0
 ];
 
 /// Counts how often it is passed.
+#[derive(Drop)]
 struct Counting {
     passes: AtomicU64,
 }

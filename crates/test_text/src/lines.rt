@@ -54,7 +54,7 @@ fn a_fault_is_no_end_of_the_input(rt: HostRuntime) -> Result<()> {
 fn lines_of(alloc: Global, lines: usize, len: usize, last: usize) -> Result<Vec<u8>> {
     let mut line = vec![in alloc; b'x'; len]?;
     line.push(b'\n')?;
-    let mut input = Vec::with_capacity(alloc, lines * (len + 1) + last)?;
+    let mut input = Vec::new(alloc);
     for _ in 0..lines {
         input.extend_from_slice(&line)?;
     }
