@@ -1,7 +1,7 @@
 use Rattle.std.proofs.Common.{◌≡◌, false, sym, ◌∙◌}
 use Rattle.std.specs.List.{IsDistinct}
 use Rattle.std.specs.Str.{bytes_eq}
-use Rattle.test_disk.proofs.racks.two.Goals as goal
+use Rattle.test_disk.proofs.faults.two.Goals as goal
 
 pub blank-requires : goal.blank-requires
 unfolding IsDistinct
