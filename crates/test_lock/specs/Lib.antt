@@ -1,1 +1,2 @@
 pub mod WritesOnly
+pub mod Refusing

@@ -1,8 +1,28 @@
 // The lock's core: who waits for whom.
 use st_grants::Grants;
-use st_units::{Name, NoMemory};
-use st_wants::{Mode, Names, Want};
+use st_units::{Name, NameList, NoMemory};
+use st_wants::{Mode, Names, NamesFault, Want};
 use std::alloc::Global;
+use std::test::Fail;
+
+fn list_of(alloc: Global, texts: &[&str]) -> Result<NameList, NoMemory> {
+    let mut list = NameList::make(alloc);
+    for text in texts {
+        match Name::read(alloc, text.as_bytes()) {
+            Ok(name) => list.push(name)?,
+            Err(_) => return Err(NoMemory),
+        }
+    }
+    Ok(list)
+}
+
+/// Of these pools.
+fn want_some(alloc: Global, pools: &[&str], mode: Mode) -> Result<Want, NoMemory> {
+    match Names::read(&list_of(alloc, pools)?) {
+        Ok(names) => Ok(Want::Some(names, mode)),
+        Err(_) => Err(NoMemory),
+    }
+}
 
 /// Of one pool, or of all where no name is given.
 fn want(alloc: Global, pool: Option<&str>, mode: Mode) -> Result<Want, NoMemory> {
@@ -86,4 +106,52 @@ fn a_writer_of_all_waits_for_both_and_is_not_passed(rt: HostRuntime) {
         );
     }
     assert_eq!(rt; grants.unreleased(), Some(1));
+}
+
+/// A reader of p and q, a writer of q, a reader of p, a writer of r.
+fn four_of_several(alloc: Global) -> Result<Grants, NoMemory> {
+    let mut grants = Grants::make(alloc)?;
+    arrive(
+        &mut grants,
+        1,
+        want_some(alloc, &["q", "p", "q"], Mode::Read)?,
+    )?;
+    arrive(&mut grants, 2, want_some(alloc, &["q"], Mode::Write)?)?;
+    arrive(&mut grants, 3, want_some(alloc, &["p"], Mode::Read)?)?;
+    arrive(&mut grants, 4, want_some(alloc, &["r"], Mode::Write)?)?;
+    Ok(grants)
+}
+
+#[test]
+fn a_writer_waits_for_a_reader_of_several_pools(rt: HostRuntime) {
+    let Ok(mut grants) = four_of_several(rt.alloc()) else {
+        panic!(rt; "out of memory");
+    };
+    assert!(rt; grant(&mut grants, 0));
+    for (ticket, want) in [(1, Err(0)), (2, Ok(())), (3, Ok(()))] {
+        assert_eq!(rt; answer(&grants, ticket), Some(want), "ticket {ticket}");
+    }
+    assert!(rt; grant(&mut grants, 2));
+    assert!(rt; grant(&mut grants, 3));
+    assert!(rt; release(&mut grants, 0));
+    assert_eq!(rt;
+        answer(&grants, 1),
+        Some(Ok(())),
+        "ticket 1 after the release"
+    );
+}
+
+#[test]
+fn names_are_one_to_eight(rt: HostRuntime) -> Result<(), Fail> {
+    let alloc = rt.alloc();
+    let list = list_of(alloc, &["d", "b", "a", "c", "b", "h", "g", "f", "e"])?;
+    let Ok(names) = Names::read(&list) else {
+        panic!(rt; "eight distinct names were refused");
+    };
+    assert_eq!(rt; names.list().len(), 8);
+    let nine = list_of(alloc, &["a", "b", "c", "d", "e", "f", "g", "h", "i"])?;
+    assert!(rt; matches!(Names::read(&nine), Err(NamesFault::BadCount)));
+    let none = list_of(alloc, &[])?;
+    assert!(rt; matches!(Names::read(&none), Err(NamesFault::BadCount)));
+    Ok(())
 }

@@ -1,9 +1,10 @@
-//! The lock: which tickets are granted, the book, and the turn of two threads.
+//! The lock: which tickets are granted, the book, the turn of two threads, and a caller of the whole.
 #![tactic(auto)]
 
 #[cfg(test)]
 mod book;
 #[cfg(test)]
 mod grants;
+pub mod refusing;
 #[cfg(test)]
 mod turn;
