@@ -1,7 +1,9 @@
 // The deltas of later commits, and what they make of a flex record.
 use super::flex::{fs_row, small_flex};
 use super::{Change, changed, put_last};
-use st_flexlog::{Delta, DeltaRow, FlexState, Mapping, apply, begin, decode, encode, follow};
+use st_flexlog::{
+    Delta, DeltaBody, DeltaRow, FlexState, Mapping, apply, begin, decode, encode, follow,
+};
 use st_flexrec::{FlexRec, keeps_conditions};
 use st_units::{Bytes, ItemList};
 use std::alloc::Global;
@@ -38,21 +40,29 @@ fn delta_of(next_cell: u64, first: Option<DeltaRow>) -> Delta {
     }
 }
 
+/// The spelling of a delta that has its first row where it has its second.
+fn spelling(delta: &Delta) -> Result<DeltaBody, Fail> {
+    if delta.second.is_some() && delta.first.is_none() {
+        return Err("a second row alone".into());
+    }
+    Ok(encode(delta))
+}
+
 #[test]
 fn deltas_are_spelled_by_hand(rt: HostRuntime) -> Result<(), Fail> {
     let two = Delta {
         second: Some(SECOND),
         ..delta_of(9, Some(FIRST))
     };
-    assert_eq!(rt; encode(&two).bytes(), TWO_ROWS.as_slice());
+    assert_eq!(rt; spelling(&two)?.bytes(), TWO_ROWS.as_slice());
     assert_eq!(rt; decode(&TWO_ROWS), Some(two));
     let mut one = TWO_ROWS;
     one[17] = 1;
-    assert_eq!(rt; encode(&delta_of(9, Some(FIRST))).bytes(), &one[..48]);
+    assert_eq!(rt; spelling(&delta_of(9, Some(FIRST)))?.bytes(), &one[..48]);
     assert_eq!(rt; decode(&one[..48]), Some(delta_of(9, Some(FIRST))));
     let mut none = TWO_ROWS;
     none[17] = 0;
-    assert_eq!(rt; encode(&delta_of(9, None)).bytes(), &none[..24]);
+    assert_eq!(rt; spelling(&delta_of(9, None))?.bytes(), &none[..24]);
     assert_eq!(rt; decode(&none[..24]), Some(delta_of(9, None)));
     Ok(())
 }
@@ -296,17 +306,18 @@ fn with_block(
     generation: u64,
     row: DeltaRow,
 ) -> Result<FlexState, Fail> {
+    let next_cell = row.cell.checked_add(1).ok_or("no cell behind it")?;
     let delta = Delta {
         serial: 1,
-        next_cell: row.cell + 1,
+        next_cell,
         first: Some(row),
         second: None,
     };
-    let body = encode(&delta);
+    let body = spelling(&delta)?;
     match follow(state, generation, body.bytes())? {
         None => Err("no delta".into()),
         Some(state) => {
-            assert_eq!(rt; state.next_cell, row.cell + 1);
+            assert_eq!(rt; state.next_cell, next_cell);
             Ok(state)
         }
     }
@@ -317,12 +328,12 @@ fn with_block(
 fn writes_after_a_checkpoint_are_told_by_deltas(rt: HostRuntime) -> Result<(), Fail> {
     let alloc = rt.alloc();
     let mut state = state_at(alloc, &made_flex(alloc)?, 2)?;
-    for (generation, block) in [(3, 0), (4, 1), (5, 0)] {
+    for (generation, block, place, cell) in [(3, 0, 0, 1), (4, 1, 1, 2), (5, 0, 2, 3)] {
         let written = DeltaRow {
             fs: 1,
             block,
-            place: (generation - 3) as u32,
-            cell: generation - 2,
+            place,
+            cell,
         };
         state = with_block(&rt, state, generation, written)?;
     }
@@ -341,7 +352,8 @@ fn what_is_no_checkpoint_or_delta_says_nothing(rt: HostRuntime) -> Result<(), Fa
     let rec = small_flex(alloc)?;
     let body = checkpoint_of(alloc, &rec)?;
     assert!(rt; begin(alloc, body.items(), 1)?.is_none());
-    assert!(rt; begin(alloc, &body.items()[1..], 2)?.is_none());
+    let part = body.items().get(1..).ok_or("an empty checkpoint")?;
+    assert!(rt; begin(alloc, part, 2)?.is_none());
     assert!(rt; follow(state_at(alloc, &rec, 2)?, 3, &TWO_ROWS[1..])?.is_none());
     // of another pool
     assert!(rt; follow(state_at(alloc, &rec, 2)?, 3, &TWO_ROWS)?.is_none());

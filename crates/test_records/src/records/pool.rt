@@ -159,7 +159,8 @@ fn a_pool_record_is_read_in_its_own_version(rt: HostRuntime) -> Result<(), Fail>
         } else {
             &[0, 0, 0, 2]
         };
-        assert_eq!(rt; &bytes.items()[8..12], flags);
+        let written = bytes.items().get(8..12).ok_or("no flags")?;
+        assert_eq!(rt; written, flags);
         match decode(alloc, bytes.items()) {
             Err(_) => return Err("no record".into()),
             Ok(found) => {
