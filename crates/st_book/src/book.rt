@@ -1,4 +1,4 @@
-ghost use Rattle.std.specs.Prelude.{ℕ, ◌≡◌, ◌+◌, ◌-◌, ◌*◌, ◌≤◌, ◌<◌, ◌^◌, ◌∷◌, ◌++◌, [], min, filter, map, not, length, vec_len, vec_capacity, option_map, is_some, Some, None, true, false, IfOk, IfErr, IfSome, IfNone, OnOk, OnErr, IsSome};
+ghost use Rattle.std.specs.Prelude.{ℕ, ◌≡◌, ◌+◌, ◌-◌, ◌*◌, ◌≤◌, ◌<◌, ◌^◌, ◌∷◌, ◌++◌, [], min, filter, map, not, length, nat_le, vec_len, vec_capacity, option_map, is_some, Some, None, true, false, IfOk, IfErr, IfSome, IfNone, OnOk, OnErr, IsSome};
 ghost use Rattle.std.specs.List.{AllByRecursion, sum_by};
 ghost use Rattle.st_wants.specs.Lock.{start, arrived, granted, released, row_at, IsWaiting, IsLive, IsLeastBlocker};
 ghost use Rattle.st_grants.specs.Order.{IsLeastTicket};
@@ -18,7 +18,7 @@ ghost use Rattle.st_wants.specs.declared.want.Mode.TheVariants as modes;
 use crate::back::{bring_all, bring_some, renew_table};
 use crate::home::{take_cells, take_table};
 use crate::lent::{Lent, faults_of, forget};
-use crate::lists::Lists;
+use crate::lists::{Lists, MOST_POOLS};
 use crate::noted::{Notes, no_notes, note};
 use crate::part::{Cells, InfoList, Part, Peek};
 use crate::ready::{Rooms, let_go, make_room, make_rooms};
@@ -206,6 +206,14 @@ impl<C: Cell, T: Board> Book<C, T> {
             infos,
             short,
         })
+    }
+
+    /// Whether there are places for the cells of a part that comes back, beside those at home. A part that stands for
+    /// the state after its entries always has them.
+    pub fn has_places(&self, part: &Part<C, T>) -> bool
+        ensures { result ≡ nat_le (length self.now.cells + length part.now.cells.items) 16 }
+    {
+        part.cells.len() <= MOST_POOLS - self.cells.len()
     }
 
     /// Takes the part of a live ticket back, and enters its release. It takes no memory. The

@@ -1,7 +1,6 @@
 -- A commit touches nothing but the pool's slots.
 use Rattle.std.proofs.Common.{◌≡◌, inl, inr, ℕ, ◌+◌, ◌*◌, ◌%◌, ◌≤◌, List, length, Some, refl, sym, ◌∙◌, subst, arith}
 use Rattle.std.specs.List.{slice_get}
-use Rattle.std.proofs.Math.Nat.{mul-le-mul_right}
 use Rattle.st_rack.specs.Device.{Path, DevState, State}
 use Rattle.st_rack.specs.Steps.{Rewriting}
 use Rattle.st_rack.specs.Moments.{Goes, OnDevice}
@@ -23,24 +22,19 @@ untouched_both outside a b c one two = record {
   sure = λ i out sure. two.sure i out (one.sure i out sure);
 }
 
-outside_slot : (pool : Area) (g i : ℕ) → OutsideOf pool i → Outside pool g i
-outside_slot pool g i out =
-    let half : g % 2 * pool.slot ≤ 1 * pool.slot = (let le : g % 2 ≤ 1 = omega arith in mul-le-mul_right pool.slot le) in
-    elim out [ inl lt ↦ inl (omega (arith, lt)) | inr le ↦ inr (omega (arith, le, half)) ]
-
-module _ (pool : Area) (flex : FlexArea) (devs : List Path) where
-  pub moves_self : (a : State) → Moves pool flex devs a a
-  moves_self a d = (untouched_self (λ i. OutsideOf pool i × (slice_get devs 0 ≡ Some d → OutsideOf flex.area i)) (a d), λ not_of. refl)
+module _ (pool : Area) (flex : FlexArea) (g : ℕ) (devs : List Path) where
+  pub moves_self : (a : State) → Moves pool flex g devs a a
+  moves_self a d = (untouched_self (λ i. Outside pool g i × (slice_get devs 0 ≡ Some d → OutsideOf flex.area i)) (a d), λ not_of. refl)
 
   -- the records
-  moves_spares : (g : ℕ) (a s : State) → Spares pool g devs a s → Moves pool flex devs a s
-  moves_spares g a s spares d =
+  moves_spares : (a s : State) → Spares pool g devs a s → Moves pool flex g devs a s
+  moves_spares a s spares d =
       let here = (spares d).0 in
-      (record { grows = here.grows; same = λ i out. here.same i (outside_slot pool g i out.0); sure = λ i out. here.sure i (outside_slot pool g i out.0) }, (spares d).1)
+      (record { grows = here.grows; same = λ i out. here.same i out.0; sure = λ i out. here.sure i out.0 }, (spares d).1)
 
   -- the flex part
   moves_step : (dev : Path) (at : ℕ) (bytes : List ℕ) → slice_get devs 0 ≡ Some dev → 512 * flex.area.at ≤ at → at + length bytes ≤ 512 * (flex.area.at + 2 * flex.area.slot)
-      → (a s : State) → OnDevice dev (Rewriting at bytes) a s → Moves pool flex devs a s
+      → (a s : State) → OnDevice dev (Rewriting at bytes) a s → Moves pool flex g devs a s
   moves_step dev at bytes head low high a s step d = elim (same_or_other d dev) [
     | inl e ↦
         let here = subst (λ (q : Path). Rewriting at bytes (a q) (s q)) (sym e) step.here in
@@ -53,22 +47,22 @@ module _ (pool : Area) (flex : FlexArea) (devs : List Path) where
           λ not_of. absurd (not_of (record { index = 0; is = first })),
         )
     | inr ne ↦ (
-      subst (λ (x : DevState). Untouched (λ i. OutsideOf pool i × (slice_get devs 0 ≡ Some d → OutsideOf flex.area i)) (a d) x) (sym (step.others d ne))
-          (untouched_self (λ i. OutsideOf pool i × (slice_get devs 0 ≡ Some d → OutsideOf flex.area i)) (a d)),
+      subst (λ (x : DevState). Untouched (λ i. Outside pool g i × (slice_get devs 0 ≡ Some d → OutsideOf flex.area i)) (a d) x) (sym (step.others d ne))
+          (untouched_self (λ i. Outside pool g i × (slice_get devs 0 ≡ Some d → OutsideOf flex.area i)) (a d)),
       λ not_of. step.others d ne,
     )
   ]
 
   module _ {D : Type 0} (moment : D → ℕ) (state_at : D → ℕ → State) where
     pub moves_run : (dev : Path) (at : ℕ) (bytes : List ℕ) → slice_get devs 0 ≡ Some dev → 512 * flex.area.at ≤ at → at + length bytes ≤ 512 * (flex.area.at + 2 * flex.area.slot)
-        → (old new : D) → Goes moment state_at (OnDevice dev (Rewriting at bytes)) old new → Goes moment state_at (Moves pool flex devs) old new
-    moves_run dev at bytes head low high old new = goes_weak moment state_at (OnDevice dev (Rewriting at bytes)) (Moves pool flex devs) old new (moves_step dev at bytes head low high)
+        → (old new : D) → Goes moment state_at (OnDevice dev (Rewriting at bytes)) old new → Goes moment state_at (Moves pool flex g devs) old new
+    moves_run dev at bytes head low high old new = goes_weak moment state_at (OnDevice dev (Rewriting at bytes)) (Moves pool flex g devs) old new (moves_step dev at bytes head low high)
 
-    pub moves_on : (g : ℕ) (old mid new : D) → Goes moment state_at (Moves pool flex devs) old mid → Goes moment state_at (Spares pool g devs) mid new → Goes moment state_at (Moves pool flex devs) old new
-    moves_on g old mid new one two =
+    pub moves_on : (old mid new : D) → Goes moment state_at (Moves pool flex g devs) old mid → Goes moment state_at (Spares pool g devs) mid new → Goes moment state_at (Moves pool flex g devs) old new
+    moves_on old mid new one two =
         let start = state_at old (moment old) in
         let between = state_at mid (moment mid) in
-        let first = at_end moment state_at (Moves pool flex devs) old mid (moves_self start) one in
-        goes_on moment state_at (Moves pool flex devs) (Spares pool g devs) (Moves pool flex devs) old mid new (λ b p. p) (λ s spares d.
-        (let rest = moves_spares g between s spares d in
-        (untouched_both (λ i. OutsideOf pool i × (slice_get devs 0 ≡ Some d → OutsideOf flex.area i)) (start d) (between d) (s d) (first d).0 rest.0, λ not_of. rest.1 not_of ∙ (first d).1 not_of))) one two
+        let first = at_end moment state_at (Moves pool flex g devs) old mid (moves_self start) one in
+        goes_on moment state_at (Moves pool flex g devs) (Spares pool g devs) (Moves pool flex g devs) old mid new (λ b p. p) (λ s spares d.
+        (let rest = moves_spares between s spares d in
+        (untouched_both (λ i. Outside pool g i × (slice_get devs 0 ≡ Some d → OutsideOf flex.area i)) (start d) (between d) (s d) (first d).0 rest.0, λ not_of. rest.1 not_of ∙ (first d).1 not_of))) one two

@@ -87,9 +87,10 @@ Spares pool g devs a s = (d : Path) → Untouched (Outside pool g) (a d) (s d) �
 abbrev pub OutsideOf : Area → ℕ → Type 0
 OutsideOf area i = (i < 512 * area.at) ⊎ (512 * (area.at + 2 * area.slot) ≤ i)
 
--- Nothing but a pool's slots is touched: those for records on the devices of the list, and those for checkpoints and deltas on the first.
-abbrev pub Moves : Area → FlexArea → List Path → State → State → Type 0
-Moves pool flex devs a s = (d : Path) → Untouched (λ i. OutsideOf pool i × (slice_get devs 0 ≡ Some d → OutsideOf flex.area i)) (a d) (s d) × ((IsOf devs d → ⊥) → s d ≡ a d)
+-- Nothing but a pool's slots is touched: those for records of a generation on the devices of the list, and those for checkpoints and
+-- deltas on the first.
+abbrev pub Moves : Area → FlexArea → ℕ → List Path → State → State → Type 0
+Moves pool flex g devs a s = (d : Path) → Untouched (λ i. Outside pool g i × (slice_get devs 0 ≡ Some d → OutsideOf flex.area i)) (a d) (s d) × ((IsOf devs d → ⊥) → s d ≡ a d)
 
 -- each device is what it was, or that and settled
 abbrev pub Settles : State → State → Type 0

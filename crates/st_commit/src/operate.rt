@@ -49,7 +49,7 @@ pub fn commit_delta<R: Rack>(
     ensures cause { HasCause (R.faults rack.old) (R.faults rack.new) result }
 
     // Nothing but the pool's slots is touched, and no other record appears in them.
-    ensures moves { Goes R.moment R.state_at (Moves pool.now flex.now devs.now) rack.old rack.new }
+    ensures moves { Goes R.moment R.state_at (Moves pool.now flex.now generation devs.now) rack.old rack.new }
     ensures others { Keeps R.moment R.state_at (NoOther pool.now devs.now generation rec.now (R.state_at rack.old (R.moment rack.old))) rack.old rack.new }
 
     // A crash at any moment of the call leaves the old generation or the new one, each with its log.
@@ -100,7 +100,7 @@ pub fn commit_checkpoint<R: Rack>(
     ensures cause { HasCause (R.faults rack.old) (R.faults rack.new) result }
 
     // Nothing but the pool's slots is touched, and no other record appears in them.
-    ensures moves { Goes R.moment R.state_at (Moves pool.now flex.now devs.now) rack.old rack.new }
+    ensures moves { Goes R.moment R.state_at (Moves pool.now flex.now generation devs.now) rack.old rack.new }
     ensures others { Keeps R.moment R.state_at (NoOther pool.now devs.now generation rec.now (R.state_at rack.old (R.moment rack.old))) rack.old rack.new }
 
     // A crash at any moment of the call leaves the old generation or the new one, each with its log.
@@ -148,7 +148,7 @@ pub fn commit_first<R: Rack>(
     ensures cause { HasCause (R.faults rack.old) (R.faults rack.new) result }
 
     // Nothing but the pool's slots is touched, and no other record appears in them.
-    ensures moves { Goes R.moment R.state_at (Moves pool.now flex.now devs.now) rack.old rack.new }
+    ensures moves { Goes R.moment R.state_at (Moves pool.now flex.now 1 devs.now) rack.old rack.new }
     ensures others { Keeps R.moment R.state_at (NoOther pool.now devs.now 1 rec.now (R.state_at rack.old (R.moment rack.old))) rack.old rack.new }
 
     // A crash at any moment of the call leaves no generation or the first. Nothing is asked of the flex area.
@@ -206,7 +206,7 @@ pub fn commit_by_rule<R: Rack>(
     ensures cause { HasCause (R.faults rack.old) (R.faults rack.new) result }
 
     // Nothing but the pool's slots is touched, and no other record appears in them.
-    ensures moves { Goes R.moment R.state_at (Moves pool.now flex.now devs.now) rack.old rack.new }
+    ensures moves { Goes R.moment R.state_at (Moves pool.now flex.now generation devs.now) rack.old rack.new }
     ensures others { Keeps R.moment R.state_at (NoOther pool.now devs.now generation rec.now (R.state_at rack.old (R.moment rack.old))) rack.old rack.new }
 
     // A crash at any moment of the call leaves the old generation or the new one, each with its log.

@@ -1,6 +1,7 @@
 ghost use Rattle.std.specs.Prelude.{◌≡◌, ◌+◌, ◌*◌, ◌<◌, ◌≤◌, ◌^◌, ℕ, IfOk, length, Option, Some, None};
 ghost use Rattle.st_units.specs.Causes.{Rose};
 ghost use Rattle.st_slots.specs.Places.{Lies};
+ghost use Rattle.st_slots.specs.Reading.{IsRead};
 ghost use Rattle.st_deltalog.specs.Log.{usable, later, serial_in, sectors_of, begun, begun_in};
 ghost use Rattle.st_deltalog.specs.Finding.{Fits, begun_of, log_of};
 
@@ -56,10 +57,7 @@ pub fn begun_at<R: Rack>(
     ensures fits { IfOk result (Fits flex.now generation) }
     ensures cause { result ≡ Err SlotFault.Fault → Rose (R.faults rack.old) (R.faults rack.new) }
     ensures faults { R.faults rack.old ≤ R.faults rack.new }
-    ensures devs { R.devs rack.new ≡ R.devs rack.old }
-    ensures clock { R.moment rack.new ≡ R.moment rack.old }
-    ensures states { R.state_at rack.new ≡ R.state_at rack.old }
-    ensures spare { R.spare rack.new ≡ R.spare rack.old }
+    ensures same { IsRead R.devs R.moment R.state_at R.spare R.reads dev.now rack.old rack.new }
 {
     let first = if_usable(
         serial,

@@ -1,5 +1,8 @@
 -- the script that a number stands for
-use Rattle.std.specs.Prelude.{ℕ, ◌+◌, ◌*◌, ◌/◌, ◌%◌, ◌^◌, List, [], ◌∷◌, ◌++◌, nat_lt, zero, suc, codes, decimal, if◌then◌else◌}
+use Rattle.std.specs.Prelude.{ℕ, ◌+◌, ◌-◌, ◌*◌, ◌/◌, ◌%◌, ◌^◌, List, [], ◌∷◌, ◌++◌, nat_lt, codes, decimal, if◌then◌else◌}
+use Rattle.std.specs.Fn.{iterate}
+use Rattle.std.specs.List.{flat_map, range_with_len}
+use Rattle.st_gen.specs.declared.line.TheConstants.{GEN_LINES}
 
 -- ---- what is drawn: x goes on once for each line but the first two of each lane
 
@@ -73,7 +76,13 @@ line_at lanes i x =
 unfoldable pub number_after : ℕ → ℕ → ℕ → ℕ
 number_after lanes i x = if nat_lt i (2 * lanes) then x else drawn x
 
--- so many lines from line i on
-abbrev pub lines_from : ℕ → ℕ → ℕ → ℕ → List ℕ
-lines_from zero lanes i x = []
-lines_from (suc more) lanes i x = line_at lanes i x ++ 10 ∷ lines_from more lanes (i + 1) (number_after lanes i x)
+-- the number from before line i: it was drawn once for each line behind the first two of each lane
+abbrev pub number_before : ℕ → ℕ → ℕ → ℕ
+number_before lanes number i = iterate drawn (i - 2 * lanes) number
+
+abbrev pub script_line : ℕ → ℕ → ℕ → List ℕ
+script_line lanes number i = line_at lanes i (number_before lanes number i) ++ 10 ∷ []
+
+-- all lines, each with its LF
+unfoldable pub script : ℕ → ℕ → List ℕ
+script lanes number = flat_map (script_line lanes number) (range_with_len 0 GEN_LINES)

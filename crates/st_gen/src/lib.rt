@@ -1,4 +1,4 @@
-//! The generator of scripts: line by line from a number, for as many lanes as there are, so that every line is
+//! The generator of scripts: line by line from a number, for as many lanes as there are, with the aim that every line is
 //! answered with code 0.
 #![tactic(auto)]
 

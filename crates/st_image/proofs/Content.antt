@@ -1,10 +1,9 @@
 -- The cells that are read from an image.
-use Rattle.std.proofs.Common.{◌≡◌, ℕ, suc, ◌+◌, ◌-◌, ◌<◌, ◌≤◌, Bool, true, false, ◌&&◌, ◌||◌, cond, nat_eq, List, [], ◌∷◌, ◌++◌, length, take, drop, Some, refl, sym, ◌∙◌, ap, subst, arith}
+use Rattle.std.proofs.Common.{◌≡◌, ℕ, suc, ◌+◌, ◌-◌, ◌<◌, ◌≤◌, Bool, true, false, ◌&&◌, ◌||◌, cond, nat_eq, List, [], ◌∷◌, ◌++◌, length, take, drop, Some, refl, sym, ◌∙◌, ap, subst, append_assoc, arith}
 use Rattle.std.specs.List.{slice_get}
 use Rattle.std.specs.Str.{bytes_eq}
 use Rattle.std.proofs.Math.Seq.{take-append_seam, drop-append_seam}
 use Rattle.st_rack.proofs.Pending.{within_below, within_above}
-use Rattle.st_fields.specs.Fields.{put_over}
 use Rattle.st_rack.specs.Device.{Path, State, Image, held, cells}
 use Rattle.st_rack.proofs.Cells.{cells_same, cells-add, length-cells}
 use Rattle.st_poolrec.specs.declared.record.PoolRec.{PoolRec}
@@ -16,7 +15,7 @@ use Rattle.st_image.specs.Looks.{Look}
 use Rattle.st_image.specs.Calm.{IsOf}
 use Rattle.st_image.specs.Stands.{Range, range_of, bytes_in, cells_of}
 use Rattle.st_image.specs.Frame.{covers, Moved, AgreesOn, SureOn}
-use Rattle.st_image.specs.Survivors.{put_cell}
+use Rattle.st_model.specs.InPlace.{over, put_cell}
 
 -- A range that was sure at the start is left as it was, but where something was written that is loose.
 pub agrees_left : (devs : List Path) (read : ℕ → Look → Content → Found) (w loose : List Range) (q : Range) (a s : State) (c : Image) → IsOf devs q.0 → Moved w a s → SureOn q a
@@ -45,7 +44,7 @@ parts f at off k n le = two_parts f at (off + k) n le ∙ ap (λ (l : List ℕ).
 
 -- a range with other bytes in a piece of it
 pub piece_bytes : (d : Path) (at off k n : ℕ) (c m : Image) → off + k ≤ n → AgreesOn (d, at, n) ((d, at + off, k) ∷ []) c m
-    → bytes_in c (d, at, n) ≡ put_over (bytes_in m (d, at, n)) off (cells (c d) (at + off) k)
+    → bytes_in c (d, at, n) ≡ over (bytes_in m (d, at, n)) off (cells (c d) (at + off) k)
 piece_bytes d at off k n c m le agrees =
     let h : List ℕ = cells (c d) (at + off) k in
     let size : length h ≡ k = length-cells (c d) (at + off) k in
@@ -56,7 +55,7 @@ piece_bytes d at off k n c m le agrees =
     cells_same (c d) (m d) (at + (off + k)) (n - (off + k)) (λ i low high. agrees i (omega (arith, low)) (omega (arith, high, le)) (above i low))
     ∙ sym (drop_front (cells (m d) at (off + k)) (cells (m d) (at + (off + k)) (n - (off + k))) (off + length h) (omega (arith, length-cells (m d) at (off + k), size)))
     ∙ ap (drop (off + length h)) (sym (two_parts (m d) at (off + k) n le)) in
-    parts (c d) at off k n le ∙ (λ i. front i ++ h ++ back i)
+    parts (c d) at off k n le ∙ (λ i. front i ++ h ++ back i) ∙ append_assoc (take off (cells (m d) at n)) h (drop (off + length h) (cells (m d) at n))
   where
     below : (i : ℕ) → i < at + off → covers ((d, at + off, k) ∷ []) d i ≡ false
     below i lt = ap (λ (b : Bool). (bytes_eq d d && b) || false) (within_below (at + off) k i lt) ∙ end (bytes_eq d d)
@@ -82,16 +81,16 @@ push false n x y = refl
 -- the cells are the same, but for bytes that are put into one of them
 module _ (rec : PoolRec) (c m : Image) where
   pub cells_piece : (cell at : ℕ) (h : List ℕ) (rows : List CellRow) → ((k : ℕ) (row : CellRow) → slice_get rows k ≡ Some row →
-      bytes_in c (range_of rec row.place) ≡ cond (nat_eq row.cell cell) (put_over (bytes_in m (range_of rec row.place)) at h) (bytes_in m (range_of rec row.place)))
+      bytes_in c (range_of rec row.place) ≡ cond (nat_eq row.cell cell) (over (bytes_in m (range_of rec row.place)) at h) (bytes_in m (range_of rec row.place)))
       → cells_of rec rows c ≡ put_cell cell at h (cells_of rec rows m)
   cells_piece cell at h [] each = refl
   cells_piece cell at h (row ∷ rows) each =
       let rest = cells_piece cell at h rows (λ k r is. each (suc k) r is) in
       let bytes = bytes_in m (range_of rec row.place) in
-      let x : ℕ × List ℕ = (row.cell, put_over bytes at h) in
+      let x : ℕ × List ℕ = (row.cell, over bytes at h) in
       let y : ℕ × List ℕ = (row.cell, bytes) in
       let z : ℕ × List ℕ = (row.cell, bytes_in c (range_of rec row.place)) in
-      let here : z ≡ cond (nat_eq row.cell cell) x y = ap (λ (l : List ℕ). entry row.cell l) (each 0 row refl) ∙ push (nat_eq row.cell cell) row.cell (put_over bytes at h) bytes in
+      let here : z ≡ cond (nat_eq row.cell cell) x y = ap (λ (l : List ℕ). entry row.cell l) (each 0 row refl) ∙ push (nat_eq row.cell cell) row.cell (over bytes at h) bytes in
       (λ i. here i ∷ rest i)
 
   pub cells_alike : (rows : List CellRow) → ((k : ℕ) (row : CellRow) → slice_get rows k ≡ Some row → bytes_in c (range_of rec row.place) ≡ bytes_in m (range_of rec row.place))

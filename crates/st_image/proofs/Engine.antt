@@ -4,6 +4,7 @@ use Rattle.std.specs.Prelude.{find, ◌==◌}
 use Rattle.std.specs.List.{AllByRecursion}
 use Rattle.std.proofs.lemmas.Bool.{eq-eqb, ne_eqb, cases_lt}
 use Rattle.std.proofs.lemmas.Bool.Decides.{nat_tests}
+use Rattle.st_limits.specs.declared.TheConstants.{MAX_POOLS}
 use Rattle.st_model.specs.declared.state.EngineState.{EngineState}
 use Rattle.st_model.specs.declared.state.PoolState.{PoolState}
 use Rattle.st_model.specs.Found.{with_own_serial}
@@ -14,7 +15,7 @@ use Rattle.st_image.specs.Rack.{IsSerial, SerialsRise, NamesDiffer, RackStands, 
 use Rattle.st_image.proofs.Unique.{stands_once}
 
 -- the pool of a serial
-abbrev pool_of : ℕ → List PoolState → Option PoolState
+abbrev pub pool_of : ℕ → List PoolState → Option PoolState
 pool_of p pools = find (λ (q : PoolState). q.serial == p) pools
 
 same_of : (a b : PoolState) → Some a ≡ Some b → a ≡ b
@@ -126,22 +127,24 @@ many_pools (x ∷ xs) p (q ∷ qs) rise all = elim (cases_lt x.serial q) [
   ]
 ]
 
-module _ (devs : Devices) (c : Image) (s : EngineState) (stands : RackStands devs c s) where
-  pool_there : (p : ℕ) (pool : PoolState) → IsSerial p → StandsFor p devs c (Some pool) → pool_of p s.pools ≡ Some pool
-  pool_there p pool serial is = stands_once p devs c (with_own_serial p s) (Some pool) (stands.each p serial) is
+-- What stands for pools of which the serials rise and the names differ, up to a serial, breaks no rule there.
+module _ (devs : Devices) (c : Image) (pools : List PoolState) (rise : SerialsRise pools) (differ : NamesDiffer pools) (few : length pools ≤ MAX_POOLS) where
+  module _ (p : ℕ) (each : (q : ℕ) → IsSerial q → q ≤ p → StandsFor q devs c (pool_of q pools)) where
+    pool_there : (q : ℕ) (pool : PoolState) → IsSerial q → q ≤ p → StandsFor q devs c (Some pool) → pool_of q pools ≡ Some pool
+    pool_there q pool serial le is = stands_once q devs c (pool_of q pools) (Some pool) (each q serial le) is
 
-  all_there : (p : ℕ) (qs : List ℕ) → IsSerial p → IsKnown devs c p → KnownBelow devs c p qs → AllHere s.pools p qs
-  all_there p [] serial known below = (known.0, pool_there p known.0 serial known.1)
-  all_there p (q ∷ qs) serial known below = ((below.2.0, pool_there q below.2.0 below.0 below.2.1), below.1, below.3, all_there p qs serial known below.4)
+    all_there : (r : ℕ) (qs : List ℕ) → r ≤ p → IsSerial r → IsKnown devs c r → KnownBelow devs c r qs → AllHere pools r qs
+    all_there r [] le serial known below = (known.0, pool_there r known.0 serial le known.1)
+    all_there r (q ∷ qs) le serial known below = ((below.2.0, pool_there q below.2.0 below.0 (omega (arith, le, below.1)) below.2.1), below.1, below.3, all_there r qs le serial known below.4)
 
-  pub not_foreign : (p : ℕ) → IsForeign devs c p → ⊥
-  not_foreign p foreign = by foreign.breaks
-    where
-      by : Breaks devs c p → ⊥
-      by (inl none) = none (with_own_serial p s) (stands.each p foreign.serial)
-      by (inr (inl taken)) = names_apart p taken.1 taken.0 taken.2 s.pools taken.4 stands.names (pool_there p taken.0 foreign.serial taken.5) (pool_there taken.1 taken.2 taken.3 taken.6) taken.7
-      by (inr (inr many)) =
-          let more = many_pools s.pools p many.1.0 stands.serials (all_there p many.1.0 foreign.serial many.0 many.1.2) in
-          let few = stands.few in
-          let count = many.1.1 in
-          absurd (omega (arith, more, few, count))
+    pub breaks_none : IsSerial p → Breaks devs c p → ⊥
+    breaks_none serial (inl none) = none (pool_of p pools) (each p serial (omega arith))
+    breaks_none serial (inr (inl taken)) =
+        names_apart p taken.1 taken.0 taken.2 pools taken.4 differ (pool_there p taken.0 serial (omega arith) taken.5) (pool_there taken.1 taken.2 taken.3 (omega (arith, taken.4)) taken.6) taken.7
+    breaks_none serial (inr (inr many)) =
+        let more = many_pools pools p many.1.0 rise (all_there p many.1.0 (omega arith) serial many.0 many.1.2) in
+        let count = many.1.1 in
+        absurd (omega (arith, more, few, count))
+
+pub not_foreign : (devs : Devices) (c : Image) (s : EngineState) → RackStands devs c s → (p : ℕ) → IsForeign devs c p → ⊥
+not_foreign devs c s stands p foreign = breaks_none devs c s.pools stands.serials stands.names stands.few p (λ q serial le. stands.each q serial) foreign.serial foreign.breaks

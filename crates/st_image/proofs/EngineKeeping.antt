@@ -26,6 +26,7 @@ module _ (e : EngineState) (devs : Devices) (s t : State) (kept : EngineKept e d
     devices = kept.devices;
     pools = each_pool (λ pool. Kept pool devs s) (λ pool. Kept pool devs t) (λ pool one. kept_sync pool devs s t one dev step) e.pools kept.pools;
     free = λ d n has unused f leaves. kept.free d n has unused f (before d f leaves);
+    silent = λ d n has unused f leaves. kept.silent d n has unused f (before d f leaves);
   }
     where
       before : (d : Path) (f : Content) → LeavesFairly (look_of 0 0 1) (t d) f → LeavesFairly (look_of 0 0 1) (s d) f
@@ -40,6 +41,7 @@ module _ (e : EngineState) (devs : Devices) (s t : State) (kept : EngineKept e d
     devices = kept.devices;
     pools = both e.pools kept.pools there;
     free = λ d n has unused f leaves. kept.free d n has unused f (left_cut (look_of 0 0 1) (s d) (t d) f (cut.here d n has) leaves);
+    silent = λ d n has unused f leaves. kept.silent d n has unused f (left_cut (look_of 0 0 1) (s d) (t d) f (cut.here d n has) leaves);
   }
     where
       both : (pools : List PoolState) → AllByRecursion (λ (pool : PoolState). Kept pool devs s) pools

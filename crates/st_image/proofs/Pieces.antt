@@ -5,7 +5,6 @@ use Rattle.std.specs.Str.{bytes_eq}
 use Rattle.std.proofs.Math.Seq.{take-append_seam, drop-append_seam}
 use Rattle.std.proofs.lemmas.Slice.Eq.{bytes_eq-Decides}
 use Rattle.std.proofs.lemmas.Bool.{cases_Bool}
-use Rattle.st_fields.specs.Fields.{put_over}
 use Rattle.st_limits.specs.declared.TheConstants.{BLOCK_BYTES}
 use Rattle.st_poolrec.specs.declared.record.PoolRec.{PoolRec}
 use Rattle.st_flexrec.specs.declared.rows.CellRow.{CellRow}
@@ -15,7 +14,7 @@ use Rattle.st_rack.proofs.Cells.{cells_same, length-cells}
 use Rattle.st_rack.proofs.Pending.{within_inside}
 use Rattle.st_image.specs.Stands.{Range, range_of, bytes_in, cells_of}
 use Rattle.st_image.specs.Frame.{covers, AgreesOn}
-use Rattle.st_image.specs.Survivors.{Piece, put_cell, put_pieces}
+use Rattle.st_model.specs.InPlace.{Piece, over, put_cell, put_pieces}
 use Rattle.st_image.specs.Pieces.{PieceAt, ArePieces, bytes_of}
 use Rattle.st_image.proofs.Content.{same_bytes, piece_bytes, cells_piece, cells_alike}
 
@@ -29,13 +28,13 @@ module _ (rec : PoolRec) (rows : List CellRow) where
       → cells_of rec rows c ≡ put_cell q.0 q.1 (cells (c r.0) r.1 r.2) (cells_of rec rows m)
   one_piece q r c m lies agrees = cells_piece rec c m q.0 q.1 (cells (c r.0) r.1 r.2) rows each
     where
-      own_bytes : (k : ℕ) (row : CellRow) → slice_get rows k ≡ Some row → nat_eq row.cell q.0 ≡ true → bytes_in c (range_of rec row.place) ≡ put_over (bytes_in m (range_of rec row.place)) q.1 (cells (c r.0) r.1 r.2)
+      own_bytes : (k : ℕ) (row : CellRow) → slice_get rows k ≡ Some row → nat_eq row.cell q.0 ≡ true → bytes_in c (range_of rec row.place) ≡ over (bytes_in m (range_of rec row.place)) q.1 (cells (c r.0) r.1 r.2)
       own_bytes k row is hit =
           let own = lies.own k row is hit in
           let one : AgreesOn (r.0, lies.base, BLOCK_BYTES) (r ∷ []) c m = subst (λ (x : Range). AgreesOn x (r ∷ []) c m) own (agrees k row is) in
           let two : AgreesOn (r.0, lies.base, BLOCK_BYTES) ((r.0, lies.base + q.1, r.2) ∷ []) c m = subst (λ (n : ℕ). AgreesOn (r.0, lies.base, BLOCK_BYTES) ((r.0, n, r.2) ∷ []) c m) lies.at one in
-          subst (λ (x : Range). bytes_in c x ≡ put_over (bytes_in m x) q.1 (cells (c r.0) r.1 r.2)) (sym own)
-          (piece_bytes r.0 lies.base q.1 r.2 BLOCK_BYTES c m lies.inside two ∙ ap (λ (n : ℕ). put_over (bytes_in m (r.0, lies.base, BLOCK_BYTES)) q.1 (cells (c r.0) n r.2)) (sym lies.at))
+          subst (λ (x : Range). bytes_in c x ≡ over (bytes_in m x) q.1 (cells (c r.0) r.1 r.2)) (sym own)
+          (piece_bytes r.0 lies.base q.1 r.2 BLOCK_BYTES c m lies.inside two ∙ ap (λ (n : ℕ). over (bytes_in m (r.0, lies.base, BLOCK_BYTES)) q.1 (cells (c r.0) n r.2)) (sym lies.at))
 
       other_bytes : (k : ℕ) (row : CellRow) → slice_get rows k ≡ Some row → nat_eq row.cell q.0 ≡ false → bytes_in c (range_of rec row.place) ≡ bytes_in m (range_of rec row.place)
       other_bytes k row is miss =
@@ -43,10 +42,10 @@ module _ (rec : PoolRec) (rows : List CellRow) where
           same_bytes (range_of rec row.place) c m (λ i low high none. one i low high (lies.others k row is miss i low high))
 
       each : (k : ℕ) (row : CellRow) → slice_get rows k ≡ Some row
-          → bytes_in c (range_of rec row.place) ≡ cond (nat_eq row.cell q.0) (put_over (bytes_in m (range_of rec row.place)) q.1 (cells (c r.0) r.1 r.2)) (bytes_in m (range_of rec row.place))
+          → bytes_in c (range_of rec row.place) ≡ cond (nat_eq row.cell q.0) (over (bytes_in m (range_of rec row.place)) q.1 (cells (c r.0) r.1 r.2)) (bytes_in m (range_of rec row.place))
       each k row is = elim (cases_Bool (nat_eq row.cell q.0)) [
-        | inl hit ↦ own_bytes k row is hit ∙ sym (ap (λ (t : Bool). cond t (put_over (bytes_in m (range_of rec row.place)) q.1 (cells (c r.0) r.1 r.2)) (bytes_in m (range_of rec row.place))) hit)
-        | inr miss ↦ other_bytes k row is miss ∙ sym (ap (λ (t : Bool). cond t (put_over (bytes_in m (range_of rec row.place)) q.1 (cells (c r.0) r.1 r.2)) (bytes_in m (range_of rec row.place))) miss)
+        | inl hit ↦ own_bytes k row is hit ∙ sym (ap (λ (t : Bool). cond t (over (bytes_in m (range_of rec row.place)) q.1 (cells (c r.0) r.1 r.2)) (bytes_in m (range_of rec row.place))) hit)
+        | inr miss ↦ other_bytes k row is miss ∙ sym (ap (λ (t : Bool). cond t (over (bytes_in m (range_of rec row.place)) q.1 (cells (c r.0) r.1 r.2)) (bytes_in m (range_of rec row.place))) miss)
       ]
 
   patched_there : (r : Range) (c m : Image) → cells (patched r c m r.0) r.1 r.2 ≡ cells (c r.0) r.1 r.2

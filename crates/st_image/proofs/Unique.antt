@@ -8,9 +8,8 @@ use Rattle.st_poolrec.specs.declared.record.PoolRec.{PoolRec}
 use Rattle.st_poolrec.specs.Record as pools
 use Rattle.st_poolrec.proofs.ReadingLemmas as pool_lemmas
 use Rattle.st_flexlog.specs.declared.state.FlexState.{FlexState}
-use Rattle.st_flexlog.specs.Said.{Says}
-use Rattle.st_flexlog.proofs.Saying.{says_one}
-use Rattle.st_deltalog.specs.Log.{Log}
+use Rattle.st_flexat.specs.FlexAt.{FlexAt}
+use Rattle.st_flexat.proofs.Once.{said_once}
 use Rattle.st_model.specs.declared.call.Call.{Call}
 use Rattle.st_model.specs.declared.call.Call.TheVariants.{CreatePool}
 use Rattle.st_model.specs.declared.state.PoolState.{PoolState}
@@ -18,7 +17,8 @@ use Rattle.st_model.specs.Merged.{merged}
 use Rattle.st_rack.specs.Story.{Content}
 use Rattle.st_rack.specs.Device.{Path, Image}
 use Rattle.st_rack.specs.Calls.{Devices}
-use Rattle.st_image.specs.Bears.{Bears, HasRow, FlexAt, first_of}
+use Rattle.st_image.specs.Looks.{flex_area}
+use Rattle.st_image.specs.Bears.{Bears, HasRow, first_of}
 use Rattle.st_image.specs.Stands.{Whole, Lacking, IsFound, IsLacking, StandsFor, NoPool, Nothing, Gone, state_of, lacking_of, missing, is_on}
 use Rattle.st_image.specs.Survivors.{IsBefore, Survives, after}
 
@@ -28,21 +28,15 @@ pair_of a b e = cc
 no_some : (a : ℕ × List ℕ) → None ≡ Some a → ⊥
 no_some a e = cc
 
-same_pool_text : (a b : PoolRec) → pools.IsPoolRec a → pools.IsPoolRec b → pools.record_text a ≡ pools.record_text b → a ≡ b
+pub same_pool_text : (a b : PoolRec) → pools.IsPoolRec a → pools.IsPoolRec b → pools.record_text a ≡ pools.record_text b → a ≡ b
 same_pool_text a b of_a of_b e = (pool_lemmas.same_record a b [] [] of_a.fits of_b.fits (ap (λ (l : List ℕ). l ++ []) e)).0
 
-log_of : (a b : Log) → Some a ≡ Some b → a ≡ b
-log_of a b e = cc
-
-same_flex : (g h : ℕ) (a b : FlexState) (f : Content) (p : ℕ) → g ≡ h → FlexAt p g f a → FlexAt p h f b → a ≡ b
-same_flex g h a b f p e one two =
-    let two_here : FlexAt p g f b = subst (λ (n : ℕ). FlexAt p n f b) (sym e) two in
-    let same : one.log ≡ two_here.log = log_of one.log two_here.log (sym one.is ∙ two_here.is) in
-    says_one two_here.log.start two_here.log.body two_here.log.deltas a b (subst (λ (l : Log). Says l.start l.body l.deltas a) same one.says) two_here.says
+pub same_flex : (g h : ℕ) (a b : FlexState) (f : Content) (p : ℕ) → g ≡ h → FlexAt flex_area p g f a → FlexAt flex_area p h f b → a ≡ b
+same_flex g h a b f p e one two = said_once flex_area p g f a b one (subst (λ (n : ℕ). FlexAt flex_area p n f b) (sym e) two)
 
 module _ (p : ℕ) (devs : Devices) (c : Image) where
   -- the newest is one
-  one_newest : (g h : ℕ) (a b : PoolRec) → Bears p devs g a c → Bears p devs h b c → (g ≡ h) × (a ≡ b)
+  pub one_newest : (g h : ℕ) (a b : PoolRec) → Bears p devs g a c → Bears p devs h b c → (g ≡ h) × (a ≡ b)
   one_newest g h a b one two =
       let pair = pair_of (g, pools.record_text a) (h, pools.record_text b) (sym one.newest ∙ two.newest) in
       (ap (λ (x : ℕ × List ℕ). x.0) pair, same_pool_text a b one.is two.is (ap (λ (x : ℕ × List ℕ). x.1) pair))
@@ -66,7 +60,7 @@ module _ (p : ℕ) (devs : Devices) (c : Image) where
       or_true false = refl
 
   -- where each row is there, none is missing
-  none_missing : (rows : List DevRow) → AllByRecursion (HasRow p devs c) rows → missing rows devs ≡ None
+  pub none_missing : (rows : List DevRow) → AllByRecursion (HasRow p devs c) rows → missing rows devs ≡ None
   none_missing [] all = refl
   none_missing (row ∷ rows) all =
       let one = all.0 in
@@ -87,7 +81,7 @@ module _ (p : ℕ) (devs : Devices) (c : Image) where
   found_once : (a b : PoolState) → IsFound p devs c a → IsFound p devs c b → a ≡ b
   found_once a b one two =
       let same = one_newest one.0 two.0 one.1 two.1 one.3.bears.record_of two.3.bears.record_of in
-      let flexed : FlexAt p two.0 (c (first_of one.1)) two.2 = subst (λ (r : PoolRec). FlexAt p two.0 (c (first_of r)) two.2) (sym same.1) two.3.bears.flexed in
+      let flexed : FlexAt flex_area p two.0 (c (first_of one.1)) two.2 = subst (λ (r : PoolRec). FlexAt flex_area p two.0 (c (first_of r)) two.2) (sym same.1) two.3.bears.flexed in
       let flex = same_flex one.0 two.0 one.2 two.2 (c (first_of one.1)) p same.0 one.3.bears.flexed flexed in
       one.4 ∙ (λ i. merged (state_of (same.0 i) (same.1 i) (flex i) c)) ∙ sym two.4
 

@@ -6,13 +6,12 @@ use Rattle.st_fields.specs.Slot.{Found}
 use Rattle.st_poolrec.specs.declared.record.PoolRec.{PoolRec}
 use Rattle.st_poolrec.specs.Record as pools
 use Rattle.st_flexlog.specs.declared.state.FlexState.{FlexState}
-use Rattle.st_flexlog.specs.Said.{Says}
-use Rattle.st_deltalog.specs.Log.{Log, log_at}
+use Rattle.st_flexat.specs.FlexAt.{FlexAt}
 use Rattle.st_commit.specs.Standing.{keep}
 use Rattle.st_rack.specs.Story.{Content}
 use Rattle.st_rack.specs.Device.{Path, Image}
 use Rattle.st_slots.specs.Reading.{read_slot, newer}
-use Rattle.st_image.specs.Looks.{pool_area, flex_area, has_header}
+use Rattle.st_image.specs.Looks.{pool_area, flex_area, slot_on, has_header}
 
 -- a candidate: the slot in a place, on a device with a header for this pool
 abbrev pub candidate : ℕ → ℕ → ℕ → Content → Found
@@ -37,12 +36,6 @@ pub record SpellsPool (body : List ℕ) (rec : PoolRec) : Type 0 where
   pub is : pools.IsPoolRec rec
   pub spelled : body ≡ pools.record_text rec
 
--- On the first device stands a log of the pool's generation, and says this. The one place that knows how mappings are written.
-pub record FlexAt (p g : ℕ) (f : Content) (st : FlexState) : Type 0 where
-  pub log : Log
-  pub is : log_at flex_area p g f ≡ Some log
-  pub says : Says log.start log.body log.deltas st
-
 -- any candidate of the pool on these devices
 pub record Candidate (p : ℕ) (devs : List (Path × ℕ)) (c : Image) (x : ℕ × List ℕ) : Type 0 where
   pub index : ℕ
@@ -66,7 +59,7 @@ pub record HasRow (p : ℕ) (devs : List (Path × ℕ)) (c : Image) (row : DevRo
 -- no slot of the pool stands on a device that is in no row; the device's header doesn't matter
 abbrev pub OnRowsAlone : ℕ → List (Path × ℕ) → List DevRow → Image → Type 0
 OnRowsAlone p devs rows c = (k : ℕ) (d : Path × ℕ) → slice_get devs k ≡ Some d → ((r : DevRow) (j : ℕ) → slice_get rows j ≡ Some r → r.path ≢ d.0)
-    → (place : ℕ) → place < 2 → keep p (read_slot pool_area place (c d.0)) ≡ None
+    → (place : ℕ) → place < 2 → keep p (slot_on d.1 place (c d.0)) ≡ None
 
 -- The devices bear this record of generation g as the newest, and no rule is broken.
 pub record Bears (p : ℕ) (devs : List (Path × ℕ)) (g : ℕ) (rec : PoolRec) (c : Image) : Type 0 where
@@ -88,5 +81,5 @@ first_of rec = path_in (slice_get rec.devs 0)
 pub record BearsWhole (p : ℕ) (devs : List (Path × ℕ)) (g : ℕ) (rec : PoolRec) (st : FlexState) (c : Image) : Type 0 where
   pub record_of : Bears p devs g rec c
   pub rows : AllByRecursion (HasRow p devs c) rec.devs
-  pub flexed : FlexAt p g (c (first_of rec)) st
+  pub flexed : FlexAt flex_area p g (c (first_of rec)) st
   pub version : st.version2 ≡ rec.version2

@@ -21,7 +21,8 @@ use Rattle.st_rack.specs.Moments.{OnDevice, AllCut}
 use Rattle.st_image.specs.Left.{LeftOf}
 use Rattle.st_image.specs.Bears.{paths}
 use Rattle.st_image.specs.Stands.{Range, range_of, cells_of, state_of, StandsFor}
-use Rattle.st_image.specs.Survivors.{Piece, put_pieces, IsBefore, after, Survives}
+use Rattle.st_model.specs.InPlace.{Piece, put_pieces}
+use Rattle.st_image.specs.Survivors.{IsBefore, after, Survives}
 use Rattle.st_image.specs.Kept.{as_pair, in_use, Kept}
 use Rattle.st_image.specs.Calm.{Shows, Calm}
 use Rattle.st_image.specs.Committed.{Committed}

@@ -1,6 +1,6 @@
 -- Where the devices of a pool are looked at, and as what: the readers of all sealed texts.
 use Rattle.std.specs.Prelude.{ℕ, zero, suc, ◌+◌, ◌*◌, Bool, true, false, ◌&&◌, ◌||◌, nat_lt, nat_eq, [], ◌∷◌, Option, Some, None, if◌then◌else◌}
-use Rattle.st_limits.specs.declared.TheConstants.{SECTOR_BYTES, BLOCK_SECTORS, RESERVED_SECTORS, FLEX_BLOCKS}
+use Rattle.st_limits.specs.declared.TheConstants.{SECTOR_BYTES, BLOCK_SECTORS, RESERVED_SECTORS, FLEX_BLOCKS, MIN_DEVICE_SECTORS}
 use Rattle.st_fields.specs.Slot.{Found}
 use Rattle.st_header.specs.Header.{copy_of, header_of}
 use Rattle.st_rack.specs.Story.{Content}
@@ -35,6 +35,10 @@ abbrev pub looks : Look → Content → Found
 looks (PoolSlot r) f = read_slot pool_area r f
 looks (Copy sectors k) f = serial_found (copy_of sectors (cells f (512 * k) 512))
 looks (Checkpoint r) f = checkpoint_in flex_area r f
+
+-- what the slot for pool records in a place reads as, on a device of so many sectors; one that is too small for a pool isn't read
+abbrev pub slot_on : ℕ → ℕ → Content → Found
+slot_on sectors place f = if nat_lt sectors MIN_DEVICE_SECTORS then None else read_slot pool_area place f
 
 -- the first device of a pool
 abbrev pub is_first : ℕ → Bool

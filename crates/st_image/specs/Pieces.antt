@@ -5,7 +5,7 @@ use Rattle.st_poolrec.specs.declared.record.PoolRec.{PoolRec}
 use Rattle.st_flexrec.specs.declared.rows.CellRow.{CellRow}
 use Rattle.st_rack.specs.Device.{Image, cells}
 use Rattle.st_image.specs.Stands.{Range, range_of}
-use Rattle.st_image.specs.Survivors.{Piece}
+use Rattle.st_model.specs.InPlace.{Piece}
 use Rattle.st_image.specs.Frame.{covers}
 
 -- The piece of a cell lies in this range, and no other cell of these rows has a byte there.

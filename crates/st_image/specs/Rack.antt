@@ -10,9 +10,8 @@ use Rattle.st_model.specs.Found.{with_own_serial}
 use Rattle.st_rack.specs.Story.{Content}
 use Rattle.st_rack.specs.Device.{Image, cells}
 use Rattle.st_rack.specs.Calls.{Devices}
-use Rattle.st_slots.specs.Reading.{read_slot}
 use Rattle.st_deltalog.specs.Log.{serial_in}
-use Rattle.st_image.specs.Looks.{pool_area}
+use Rattle.st_image.specs.Looks.{slot_on}
 use Rattle.st_image.specs.Stands.{StandsFor}
 use Rattle.st_image.specs.Survivors.{row_of}
 
@@ -28,7 +27,7 @@ slot_serial (Some x) = if nat_le (serial_in x.1) MAX_POOL_SERIAL then serial_in 
 
 -- the greatest serial in the header and in the slots of a device of so many sectors
 abbrev pub greatest_on : ℕ → Content → ℕ
-greatest_on sectors f = max (unwrap_or (header_of sectors (cells f 0 8192)) 0) (max (slot_serial (read_slot pool_area 0 f)) (slot_serial (read_slot pool_area 1 f)))
+greatest_on sectors f = max (unwrap_or (header_of sectors (cells f 0 8192)) 0) (max (slot_serial (slot_on sectors 0 f)) (slot_serial (slot_on sectors 1 f)))
 
 abbrev pub greatest_over : Devices → Image → ℕ
 greatest_over [] c = 0

@@ -1,10 +1,11 @@
 -- bytes that are taken or put in two steps
-use Rattle.std.proofs.Common.{◌≡◌, ℕ, ◌+◌, ◌<◌, ◌≤◌, List, [], ◌++◌, length, take, drop, Result, Ok, Err, Option, Some, None, sym, ap, ◌∙◌, arith, length-append, length-take, take-append-drop}
+use Rattle.std.proofs.Common.{◌≡◌, ℕ, ◌+◌, ◌<◌, ◌≤◌, List, [], ◌++◌, length, take, drop, Result, Ok, Err, Option, Some, None, refl, sym, ap, ◌∙◌, arith, length-append, length-take, take-append-drop}
 use Rattle.std.proofs.lemmas.List.{drop-drop}
 use Rattle.std.proofs.Math.Seq.{take-append_seam}
 use Rattle.std.proofs.KnownBytes.{Consumes-nil, Consumes-trans, Consumes-kept, Appends-nil, Appends-trans}
 use Rattle.std.specs.Prelude.{IfSome}
 use Rattle.std.specs.Io.KnownBytes.{Consumes, ReadConsumes, Appends}
+use Rattle.st_lines.specs.Lines.{lines_of, AreLinesOf}
 
 pub Consumes-start : (a : Option (List ℕ)) → Consumes a a []
 Consumes-start = Consumes-nil
@@ -35,3 +36,8 @@ Consumes-copied bytes given count front rest h e =
     let len : count ≡ length front = omega (arith, ap length e, length-take count (drop given bytes), h) in
     let taken : take count (front ++ rest) ≡ take count (drop given bytes) = ap (λ k. take k (front ++ rest)) len ∙ take-append_seam front rest ∙ e in
     sym (ap (λ part. part ++ drop (given + count) bytes) taken ∙ ap (λ part. take count (drop given bytes) ++ part) (sym (drop-drop count given bytes)) ∙ take-append-drop count (drop given bytes))
+
+-- the lines of what a source had left, where it tells it, else none
+pub lines_for : (left : Option (List ℕ)) → (lines : List (List ℕ)) × AreLinesOf left lines
+lines_for None = ([], tt)
+lines_for (Some input) = (lines_of input, refl)

@@ -8,6 +8,10 @@ use Rattle.st_lines.specs.Printing.{Printing, Started}
 pub printing_start : (held : Option (List ℕ)) (whole : List ℕ) → Printing held held [] whole whole
 printing_start held whole = record { written = []; took = Appends-start held; makes = refl }
 
+-- where nothing was put, a beginning of anything was
+pub started_nothing : (held : Option (List ℕ)) (whole : List ℕ) → Started held held whole
+started_nothing held whole = record { written = []; rest = whole; took = Appends-start held; makes = refl }
+
 -- what is printed so far is a prefix
 pub printing-Started : (before now : Option (List ℕ)) (waiting rest whole : List ℕ) → Printing before now waiting rest whole → Started before now whole
 printing-Started before now waiting rest whole h = record { written = h.written; rest = waiting ++ rest; took = h.took; makes = h.makes }

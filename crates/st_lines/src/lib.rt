@@ -14,7 +14,7 @@ pub use laws::{first_limit_stays, lines_give_back};
 pub use limit::Limit;
 pub use lines::Lines;
 pub use memory::{MemorySink, MemorySource};
-pub use outlet::Outlet;
+pub use outlet::{Outlet, WriteStop};
 pub use put::put_all;
 pub use read::{ReadStop, read_lines};
 pub use stream::{Failed, Reading, Sink, Source, Writing};

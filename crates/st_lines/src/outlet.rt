@@ -8,6 +8,38 @@ use crate::stream::{Failed, Sink};
 use st_units::NoMemory;
 use std::alloc::Global;
 use std::marker::Model;
+use thiserror::Error;
+
+/// Why an output wasn't written.
+#[derive(Clone, Copy, Debug, PartialEq, Eq, Error)]
+pub enum WriteStop {
+    #[error("write fault")]
+    Fault,
+    #[error("out of memory")]
+    OutOfMemory,
+}
+
+impl From<Failed> for WriteStop {
+    ghost use Rattle.std.specs.Prelude.{◌≡◌};
+    ghost use Rattle.st_lines.specs.declared.outlet.WriteStop.TheVariants.{Fault};
+
+    ghost from_gives = { λ _ e. e ≡ Fault };
+
+    fn from(_failed: Failed) -> WriteStop {
+        WriteStop::Fault
+    }
+}
+
+impl From<NoMemory> for WriteStop {
+    ghost use Rattle.std.specs.Prelude.{◌≡◌};
+    ghost use Rattle.st_lines.specs.declared.outlet.WriteStop.TheVariants.{OutOfMemory};
+
+    ghost from_gives = { λ _ e. e ≡ OutOfMemory };
+
+    fn from(_refused: NoMemory) -> WriteStop {
+        WriteStop::OutOfMemory
+    }
+}
 
 /// How many bytes an outlet holds back at most.
 const ROOM: usize = 65_536;

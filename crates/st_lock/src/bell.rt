@@ -1,74 +1,68 @@
 use crossbeam_utils::CachePadded;
+use std::sync::Wait;
 use std::sync::atomic::{AtomicU64, Ordering};
-use std::sync::{Condvar, Mutex, Wait};
+use std::{hint, thread};
 
-/// Rung after a release, for the seats whose tickets wait. No proof says that a wait ends.
+// A seat whose ticket waits looks so often with a short pause; from then on it yields its processor after each look.
+const SPINS: u32 = 20;
+
+// So often it looks whether as many tickets were released as may stand before its own.
+const PATIENT_LOOKS: u32 = 100;
+
+// So often it looks in all before it sleeps.
+const LOOKS: u32 = 500;
+
+/// Rung at each release, for the seats whose tickets wait. No clause speaks of it: what a seat is granted, its next try says.
 #[derive(Drop)]
 pub(crate) struct Bell {
-    /// The seats that wait, or are about to: while there are none, nobody rings.
-    waiters: CachePadded<AtomicU64>,
     /// How often it rang. The number wraps.
-    rings: CachePadded<Mutex<u64>>,
-    rung: Condvar,
-}
-
-/// What a seat keeps between two looks at its ticket.
-#[derive(Clone, Copy, Drop)]
-pub(crate) enum Rest {
-    /// It looked once, and isn't among those who wait.
-    Awake,
-    /// It waits, and saw this number of rings before its last look.
-    Seen(u64),
+    rings: CachePadded<AtomicU64>,
+    /// The seats that sleep, or are about to: while there are none, nobody is woken.
+    sleepers: CachePadded<AtomicU64>,
 }
 
 impl Bell {
     pub fn new() -> Bell {
         Bell {
-            waiters: CachePadded::new(AtomicU64::new(0)),
-            rings: CachePadded::new(Mutex::new(0)),
-            rung: Condvar::new(),
+            rings: CachePadded::new(AtomicU64::new(0)),
+            sleepers: CachePadded::new(AtomicU64::new(0)),
         }
     }
 
-    /// Rests until a release that came after the last look; the first time the seat only says that it waits, and looks
-    /// again, so that no release falls between.
-    pub fn rest(&self, rt: &impl Wait, rest: Rest) -> Rest {
-        match rest {
-            Rest::Awake => {
-                self.waiters.fetch_add(1, Ordering::SeqCst);
-                Rest::Seen(self.count(rt))
+    /// How often it rang.
+    pub fn rings(&self) -> u64 {
+        self.rings.load(Ordering::SeqCst)
+    }
+
+    /// Tells all who wait that a ticket was released. It makes a system call only where a seat sleeps.
+    pub fn ring(&self) {
+        self.rings.fetch_add(1, Ordering::SeqCst);
+        if self.sleepers.load(Ordering::SeqCst) > 0 {
+            self.rings.wake_all();
+        }
+    }
+
+    /// Waits for so many rings since it rang `seen` times; after a while one will do. It may end for no reason.
+    pub fn wait(&self, rt: &impl Wait, seen: u64, rings: u64) {
+        for looks in 0..LOOKS {
+            let rung = self.rings().wrapping_sub(seen);
+            if rung >= rings || (looks >= PATIENT_LOOKS && rung > 0) {
+                return;
             }
-            Rest::Seen(rings) => Rest::Seen(self.next_ring(rt, rings)),
-        }
-    }
-
-    /// The seat waits no longer.
-    pub fn wake_up(&self, rest: Rest) {
-        match rest {
-            Rest::Awake => {}
-            Rest::Seen(_) => {
-                self.waiters.fetch_sub(1, Ordering::SeqCst);
+            if looks < SPINS {
+                hint::spin_loop();
+            } else {
+                thread::yield_now();
             }
         }
+        self.sleep(rt, seen);
     }
 
-    /// Tells all who wait that a ticket was released.
-    pub fn ring(&self, rt: &impl Wait) {
-        if self.waiters.load(Ordering::SeqCst) > 0 {
-            let mut rings = self.rings.lock(rt);
-            *rings = rings.wrapping_add(1);
-            self.rung.notify_all();
-        }
-    }
-
-    fn count(&self, rt: &impl Wait) -> u64 {
-        *self.rings.lock(rt)
-    }
-
-    /// Sleeps while it rang so often, and gives how often it rang then.
-    fn next_ring(&self, rt: &impl Wait, seen: u64) -> u64 {
-        *self
-            .rung
-            .wait_while(rt, self.rings.lock(rt), |rings| *rings == seen)
+    /// Sleeps while it rang so often. The seat counts itself among the sleepers before it looks for the last time, so no
+    /// ring falls between.
+    fn sleep(&self, rt: &impl Wait, seen: u64) {
+        self.sleepers.fetch_add(1, Ordering::SeqCst);
+        self.rings.park(rt, (seen % (1 << 32)) as u32);
+        self.sleepers.fetch_sub(1, Ordering::SeqCst);
     }
 }

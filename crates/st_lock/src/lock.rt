@@ -13,7 +13,7 @@ ghost use Rattle.st_lock.specs.Opening.{IsOpening, state_of};
 ghost use Rattle.st_wants.specs.Lock.{IsLeastBlocker, new_row};
 ghost use Rattle.st_lock.specs.Seats.{first_lock_seat, lock_split, lock_new, lock_join, IsHeard, IsLater, lock_at, own_row, plain, state_at};
 
-use crate::bell::{Bell, Rest};
+use crate::bell::Bell;
 use crate::desk::Desk;
 use crate::guard::{Guard, Ticket, Tried};
 use crate::seat::Seat;
@@ -141,7 +141,7 @@ impl<C: Cell, T: Board> AllOrSome<C, T> {
         tried(ticket, granted)
     }
 
-    /// Waits until the ticket is granted. Between two looks the seat sleeps until another ticket is released.
+    /// Waits until the ticket is granted: tries, and tries again after releases.
     pub fn acquire(&self, rt: &impl Wait, seat: &mut Seat<C, T>, ticket: Ticket) -> Guard<C, T>
         requires here { seat.old.turn ≡ self.now }
         requires waits { IsSomeAnd (own_row ticket.number seat.old) (λ r. r.live ≡ false) }
@@ -161,16 +161,17 @@ impl<C: Cell, T: Board> AllOrSome<C, T> {
         ensures places { 16 ≤ length result.part.cells.items + result.part.cells.room }
     {
         let mut ticket = ticket;
-        let mut rest = Rest::Awake;
         for _ in rt.forever() {
+            let seen = self.bell.rings();
             match self.try_grant(rt, seat, ticket) {
-                Tried::Granted(guard) => {
-                    self.bell.wake_up(rest);
-                    return guard;
+                Tried::Granted(guard) => return guard,
+                Tried::NotYet(same, blocker) => {
+                    // As many tickets stand before this one at most.
+                    let before = same.number.saturating_sub(blocker);
+                    ticket = same;
+                    self.bell.wait(rt, seen, before);
                 }
-                Tried::NotYet(same, _blocker) => ticket = same,
             }
-            rest = self.bell.rest(rt, rest);
         }
         unreachable!()
     }
@@ -200,7 +201,7 @@ impl<C: Cell, T: Board> AllOrSome<C, T> {
         let mut book = book;
         book.release(ticket, part, entries);
         self.turn.put(&mut seat.seat, Desk { book });
-        self.bell.ring(rt);
+        self.bell.ring();
     }
 
     /// A new seat, which has seen what the one has. It takes no memory.

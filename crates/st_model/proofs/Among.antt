@@ -102,10 +102,10 @@ all_placed rows pools h =
 abbrev pub up : PoolState → PoolState
 up p = record p { mode = Up }
 
-own_started : (p q : PoolState) → q ≡ p → started_as p.serial q ≡ up p
+pub own_started : (p q : PoolState) → q ≡ p → started_as p.serial q ≡ up p
 own_started p q e = rw (e, same_number p.serial) refl
 
-other_started : (rows : List DevRow) (p q : PoolState) → IsOther rows p q → started_as p.serial q ≡ q
+pub other_started : (rows : List DevRow) (p q : PoolState) → IsOther rows p q → started_as p.serial q ≡ q
 other_started rows p q o = rw (o.serial) refl
 
 other_called : (rows : List DevRow) (p q : PoolState) → IsOther rows p q → is_called p.name q ≡ false

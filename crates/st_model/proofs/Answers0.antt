@@ -5,7 +5,7 @@ use Rattle.std.proofs.lemmas.Grind.{common_steps}
 use Rattle.st_units.specs.declared.cause.Cause.{Cause}
 use Rattle.st_model.specs.declared.reply.Reply.{Reply}
 use Rattle.st_model.specs.declared.state.PoolState.{PoolState}
-use Rattle.st_model.specs.Answer.{first_answer, refused_where, unless_answered}
+use Rattle.st_model.specs.Answer.{first_answer, refused_by, refused_where, unless_answered}
 use Rattle.st_model.specs.ValidPool.{IsWhole}
 use Rattle.st_model.specs.Checks.{worn}
 use Rattle.st_model.specs.Step.{changes}
@@ -63,3 +63,7 @@ no_change_where true c = each_code c
         here true = refl
         here false = refl
 no_change_where false c = tt
+
+pub no_change_by : (o : Option Cause) → IsNoChange (refused_by o)
+no_change_by None = tt
+no_change_by (Some cause) = no_change_where true cause

@@ -65,7 +65,7 @@ or_right true b h = refl
 or_right false b h = h
 
 -- the devices that the call takes are there
-taken_there : (rows : List DevRow) (p : PoolState) (call : Call) (mode : PoolMode) → flight_of mode ≡ Some call → AreThere rows p mode → AreTaken rows call
+pub taken_there : (rows : List DevRow) (p : PoolState) (call : Call) (mode : PoolMode) → flight_of mode ≡ Some call → AreThere rows p mode → AreTaken rows call
 taken_there rows p call Up e h = absurd cc
 taken_there rows p call (Down c) e h = let same : c ≡ call = cc in subst (AreTaken rows) same h.1
 taken_there rows p call Stopped e h = absurd cc
@@ -76,7 +76,7 @@ first_among : (path : Text) (paths : List Text) → has_path path (path ∷ path
 first_among path paths = rw ((bytes_eq-Decides path path).1 refl) refl
 
 -- each of the paths is one of them
-each_among : (paths : List Text) → AllByRecursion (λ path. has_path path paths ≡ true) paths
+pub each_among : (paths : List Text) → AllByRecursion (λ path. has_path path paths ≡ true) paths
 each_among [] = tt
 each_among (path ∷ paths) = (
   first_among path paths,

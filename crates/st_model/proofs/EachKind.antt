@@ -11,12 +11,21 @@ use Rattle.st_model.specs.Valid.{Apart, AreThere, IsAccepted, IsOn, IsOnIfAny, I
 use Rattle.st_model.specs.ValidPool.{EachPair, IsValidPool}
 use Rattle.st_model.specs.Flight.{state_before}
 use Rattle.st_model.specs.Plain.{plain}
+use Rattle.st_model.specs.steps.AddCacheDevs.{more_cache}
+use Rattle.st_model.specs.steps.AddDataDevs.{data_devs}
+use Rattle.st_model.specs.steps.Check.{check_pool}
+use Rattle.st_model.specs.steps.FsRead.{fs_read}
+use Rattle.st_model.specs.steps.FsWrite.{fs_write}
 use Rattle.st_model.specs.steps.CreateFilesystems.{create_filesystems}
+use Rattle.st_model.specs.steps.DestroyFilesystems.{destroy_filesystems}
+use Rattle.st_model.specs.steps.InitCache.{new_cache}
 use Rattle.st_model.specs.steps.RenameFilesystem.{rename_filesystem}
 use Rattle.st_model.specs.steps.SetFsLimit.{set_fs_limit}
 use Rattle.st_model.specs.steps.SetMerge.{set_merge}
 use Rattle.st_model.specs.steps.SetOverprovisioning.{set_overprovisioning}
 use Rattle.st_model.specs.steps.SetSizeLimit.{set_size_limit}
+use Rattle.st_model.specs.steps.SnapshotFilesystem.{snapshot_filesystem}
+use Rattle.st_model.proofs.AddKind.{add-kind}
 use Rattle.st_model.proofs.Alone.{alone_before, IsAloneFlight, AcceptedAlike, doing-kind, rename-kind, destroy-kind}
 use Rattle.st_model.proofs.Among.{IsPlaced, all_placed, All-with}
 use Rattle.st_model.proofs.CreateKind.{create-kind}
@@ -32,19 +41,18 @@ kind (StartPool id) s p placed there count on flight = absurd on
 kind (PoolReport pool) s p placed there count on flight = absurd on
 kind EngineStateReport s p placed there count on flight = absurd on
 kind PowerCycle s p placed there count on flight = absurd on
--- those that aren't built yet
 kind (DestroyPool name) s p placed there count on flight = destroy-kind name s p placed on
-kind (AddDataDevs pool devices) s p placed there count on flight = (λ h. h, λ h. h)
-kind (InitCache pool devices) s p placed there count on flight = (λ h. h, λ h. h)
-kind (AddCacheDevs pool devices) s p placed there count on flight = (λ h. h, λ h. h)
-kind (DestroyFilesystems pool names) s p placed there count on flight = (λ h. h, λ h. h)
-kind (SnapshotFilesystem pool origin new) s p placed there count on flight = (λ h. h, λ h. h)
+kind (AddDataDevs pool devices) s p placed there count on flight = add-kind data_devs (AddDataDevs pool devices) pool devices s p placed there on flight refl
+kind (InitCache pool devices) s p placed there count on flight = add-kind new_cache (InitCache pool devices) pool devices s p placed there on flight refl
+kind (AddCacheDevs pool devices) s p placed there count on flight = add-kind more_cache (AddCacheDevs pool devices) pool devices s p placed there on flight refl
+kind (DestroyFilesystems pool names) s p placed there count on flight = doing-kind s p pool (destroy_filesystems names) placed on
+kind (SnapshotFilesystem pool origin new) s p placed there count on flight = doing-kind s p pool (snapshot_filesystem origin new) placed on
 kind (RenameFilesystem pool fs new) s p placed there count on flight = doing-kind s p pool (rename_filesystem fs new) placed on
 kind (SetSizeLimit pool fs limit) s p placed there count on flight = doing-kind s p pool (set_size_limit fs limit) placed on
 kind (SetOverprovisioning pool value) s p placed there count on flight = doing-kind s p pool (set_overprovisioning value) placed on
-kind (FsRead pool fs sector sectors) s p placed there count on flight = (λ h. h, λ h. h)
-kind (FsWrite pool fs sector payload) s p placed there count on flight = (λ h. h, λ h. h)
-kind (Check pool) s p placed there count on flight = (λ h. h, λ h. h)
+kind (FsRead pool fs sector sectors) s p placed there count on flight = doing-kind s p pool (fs_read fs sector sectors) placed on
+kind (FsWrite pool fs sector payload) s p placed there count on flight = doing-kind s p pool (fs_write fs sector payload) placed on
+kind (Check pool) s p placed there count on flight = doing-kind s p pool check_pool placed on
 kind (SetMerge pool fs value) s p placed there count on flight = doing-kind s p pool (set_merge fs value) placed on
 kind (PoolReports pools) s p placed there count on flight = absurd on
 

@@ -3,7 +3,7 @@ use Rattle.std.proofs.Common.{◌≡◌, ℕ, List, Bool, true, false, Option, S
 use Rattle.st_units.specs.declared.cause.Cause.TheVariants.{DeviceFault}
 use Rattle.st_units.specs.declared.rows.FsSpec.{FsSpec}
 use Rattle.st_model.specs.declared.call.Call.{Call}
-use Rattle.st_model.specs.declared.call.Call.TheVariants.{DestroyPool, StopPool, RenamePool, CreateFilesystems, RenameFilesystem, SetSizeLimit, SetFsLimit, SetOverprovisioning, PoolReport, PoolReports, EngineStateReport, PowerCycle, SetMerge}
+use Rattle.st_model.specs.declared.call.Call.TheVariants.{DestroyPool, StopPool, RenamePool, CreateFilesystems, RenameFilesystem, SetSizeLimit, SetFsLimit, SetOverprovisioning, FsWrite, FsRead, Check, PoolReport, PoolReports, EngineStateReport, PowerCycle, SetMerge, DestroyFilesystems, SnapshotFilesystem}
 use Rattle.st_model.specs.declared.entry.Env.{Env}
 use Rattle.st_model.specs.declared.entry.Env.TheVariants.{Plain, NoMem, FaultRead, FaultWrite, After, Before}
 use Rattle.st_model.specs.declared.state.EngineState.{EngineState}
@@ -17,10 +17,15 @@ use Rattle.st_model.specs.Checks.{down}
 use Rattle.st_model.specs.Flight.{in_flight}
 use Rattle.st_model.specs.Lifted.{Doing, IsWithin, changed, on_pool}
 use Rattle.st_model.specs.Local.{where_so}
-use Rattle.st_model.specs.Step.{wrote, fault_on, usual, outcome, is_changed, changes}
+use Rattle.st_model.specs.Step.{wrote, fault_on, usual, outcome, is_changed, is_ok, changes}
 use Rattle.st_model.specs.Plain.{plain}
 use Rattle.st_model.specs.Valid.{IsOn, IsValid}
 use Rattle.st_model.specs.ValidPool.{IsBefore, IsHalted, IsWhole}
+use Rattle.st_model.specs.declared.call.Payload.{Payload}
+use Rattle.st_model.specs.Parts.{own}
+use Rattle.st_model.specs.steps.Check.{check_pool}
+use Rattle.st_model.specs.steps.FsRead.{fs_read, misses}
+use Rattle.st_model.specs.steps.FsWrite.{fs_write}
 use Rattle.st_model.specs.steps.PoolReports.{pool_reports}
 use Rattle.st_model.specs.steps.RenameFilesystem.{rename_filesystem}
 use Rattle.st_model.specs.steps.SetMerge.{set_merge}
@@ -30,15 +35,25 @@ use Rattle.st_model.specs.steps.SetSizeLimit.{set_size_limit}
 use Rattle.st_model.specs.steps.PoolReport.{pool_report}
 use Rattle.st_model.proofs.Alone.{alone_before}
 use Rattle.st_model.proofs.Among.{up}
-use Rattle.st_model.proofs.Kept.{alone_of, doing-valid, failed-valid}
-use Rattle.st_model.proofs.LocalCalls.{overprovisioning-within, rename_fs-within, report-within, size_limit-within, set_merge-within}
+use Rattle.st_model.proofs.Kept.{alone_of, doing-valid, failed-valid, failed_ok-valid}
+use Rattle.st_model.proofs.LocalCalls.{overprovisioning-within, rename_fs-within, report-within, size_limit-within, set_merge-within, check-within, fs_read-within, fs_write-within, destroy_fs-within, snapshot-within}
 use Rattle.st_model.proofs.ValidDestroy.{destroy-valid, destroy_failed-valid}
 use Rattle.st_model.proofs.ValidFields.{overprovisioning-again, overprovisioning-whole, rename_filesystem-again, rename_filesystem-whole, size_limit-again, size_limit-whole}
 use Rattle.st_model.proofs.ValidCreateFs.{create_fs-valid, create_fs_failed-valid}
 use Rattle.st_model.proofs.ValidLimit.{limit-valid, limit_failed-valid}
+use Rattle.st_model.proofs.ValidCheck.{check-again, check-whole}
+use Rattle.st_model.proofs.ValidRead.{fs_read-again, fs_read-whole}
+use Rattle.st_model.proofs.ValidWrite.{fs_write-again, fs_write-whole}
 use Rattle.st_model.proofs.ValidRename.{rename-valid}
 use Rattle.st_model.proofs.ValidRenameFailed.{rename_failed-valid}
 use Rattle.st_model.proofs.ValidStart.{IsValidAfter, cycle-valid, where-valid, stop-valid}
+use Rattle.st_model.specs.steps.AddDevices.{Adding}
+use Rattle.st_model.specs.steps.DestroyFilesystems.{destroy_filesystems}
+use Rattle.st_model.specs.steps.SnapshotFilesystem.{snapshot_filesystem}
+use Rattle.st_model.proofs.AddFailed.{IsAddCall, add_failed-valid}
+use Rattle.st_model.proofs.ValidAdding.{add-valid}
+use Rattle.st_model.proofs.ValidDestroyFs.{destroy_fs-again, destroy_fs-whole}
+use Rattle.st_model.proofs.ValidSnapshot.{snapshot-again, snapshot-whole}
 
 pub where-if : (b : Bool) (after : _ × EngineState) → (b ≡ true → IsValid after.1) → IsValidAfter (where_so b after)
 where-if true after h = h refl
@@ -172,6 +187,82 @@ set_merge-call pool fs value = record {
   again = λ p. set_merge-again fs value p (up (down (SetMerge pool fs value) p)) refl refl;
 }
 
+pub fs_write-call : (pool fs : Text) (sector : ℕ) (payload : Payload) → IsWithinCall pool (FsWrite pool fs sector payload) (fs_write fs sector payload)
+fs_write-call pool fs sector payload = record {
+  of_plain = λ s. refl;
+  of_outcome = λ s env. refl;
+  of_flight = λ s. refl;
+  of_wrote = λ s. refl;
+  takes = refl;
+  gives = refl;
+  before = λ p h. h;
+  on = λ n e. e;
+  alone = λ rows p. refl;
+  within = fs_write-within fs sector payload;
+  whole = fs_write-whole fs sector payload;
+  again = λ p. fs_write-again fs sector payload p (up (down (FsWrite pool fs sector payload) p)) refl (λ x. refl);
+}
+
+pub check-call : (pool : Text) → IsWithinCall pool (Check pool) (check_pool)
+check-call pool = record {
+  of_plain = λ s. refl;
+  of_outcome = λ s env. refl;
+  of_flight = λ s. refl;
+  of_wrote = λ s. refl;
+  takes = refl;
+  gives = refl;
+  before = λ p h. h;
+  on = λ n e. e;
+  alone = λ rows p. refl;
+  within = check-within;
+  whole = check-whole;
+  again = λ p. check-again p (up (down (Check pool) p)) refl;
+}
+
+-- a read that misses writes to the cache
+first_so : (a b : Bool) → (a && b) ≡ true → a ≡ true
+first_so true b h = refl
+first_so false b h = absurd cc
+
+pub fs_read-keeps : (s : EngineState) (pool fs : Text) (sector sectors : ℕ) (env : Env) → IsValid s → IsValidAfter (outcome s (FsRead pool fs sector sectors) env)
+fs_read-keeps s pool fs sector sectors env v =
+    let call = FsRead pool fs sector sectors in
+    usual-valid s call env v (doing-valid s pool (fs_read fs sector sectors) (fs_read-within fs sector sectors) (fs_read-whole fs sector sectors) v)
+    (λ h. failed_ok-valid s pool call (fs_read fs sector sectors) refl refl refl (λ p halted. halted) (λ n e. e) (λ rows p. refl)
+    (λ p. fs_read-again fs sector sectors p (up (down call p)) refl) (first_so (is_ok (plain s call)) (misses fs sector sectors (own pool s)) h) v)
+
+pub destroy_fs-call : (pool : Text) (names : List Text) → IsWithinCall pool (DestroyFilesystems pool names) (destroy_filesystems names)
+destroy_fs-call pool names = record {
+  of_plain = λ s. refl;
+  of_outcome = λ s env. refl;
+  of_flight = λ s. refl;
+  of_wrote = λ s. refl;
+  takes = refl;
+  gives = refl;
+  before = λ p h. h;
+  on = λ n e. e;
+  alone = λ rows p. refl;
+  within = destroy_fs-within names;
+  whole = destroy_fs-whole names;
+  again = λ p. destroy_fs-again names p (up (down (DestroyFilesystems pool names) p)) refl;
+}
+
+pub snapshot-call : (pool origin name : Text) → IsWithinCall pool (SnapshotFilesystem pool origin name) (snapshot_filesystem origin name)
+snapshot-call pool origin name = record {
+  of_plain = λ s. refl;
+  of_outcome = λ s env. refl;
+  of_flight = λ s. refl;
+  of_wrote = λ s. refl;
+  takes = refl;
+  gives = refl;
+  before = λ p h. h;
+  on = λ n e. e;
+  alone = λ rows p. refl;
+  within = snapshot-within origin name;
+  whole = snapshot-whole origin name;
+  again = λ p. snapshot-again origin name p (up (down (SnapshotFilesystem pool origin name) p)) refl (λ fs. refl);
+}
+
 reports-valid : (s : EngineState) (pools : List Text) → IsValid s → IsValid (pool_reports pools s).1
 unfolding pool_reports
 reports-valid s pools v = v
@@ -184,3 +275,9 @@ cycle-keeps s env v = usual-valid s PowerCycle env v (cycle-valid s v) tt
 
 pub destroy-keeps : (s : EngineState) (name : Text) (env : Env) → IsValid s → IsValidAfter (outcome s (DestroyPool name) env)
 destroy-keeps s name env v = usual-valid s (DestroyPool name) env v (destroy-valid s name v) (λ h. destroy_failed-valid s name h v)
+
+pub add-keeps : (a : Adding) (make : Text → List Text → Call) → IsAddCall a make → (s : EngineState) (name : Text) (devices : List Text) (env : Env) → IsValid s → IsValidAfter (outcome s (make name devices) env)
+add-keeps a make c s name devices env v =
+    subst IsValidAfter (sym (c.of_outcome s name devices env))
+    (usual-valid s (make name devices) env v (subst IsValidAfter (sym (c.of_plain s name devices)) (add-valid a c.adding s name devices v))
+    (subst (λ o. IsValidFault s o (wrote s (make name devices))) (sym (c.of_flight s name devices)) (λ h. add_failed-valid a make c s name devices (sym (c.of_wrote s name devices) ∙ h) v)))

@@ -47,7 +47,7 @@ module _ {X : Type 0} where
   filter_shorter p [] = omega arith
   filter_shorter p (x ∷ xs) = shorter (p x) x (filter p xs) (length xs) (filter_shorter p xs)
 
-none_first : (answers : List (Option Reply)) → AllByRecursion (λ o. o ≡ None) answers → first_answer answers ≡ None
+pub none_first : (answers : List (Option Reply)) → AllByRecursion (λ o. o ≡ None) answers → first_answer answers ≡ None
 none_first [] h = refl
 none_first (None ∷ answers) h = none_first answers h.1
 none_first (Some r ∷ answers) h = absurd cc
@@ -56,28 +56,28 @@ not_none : (o : Bool) → o ≡ true → not o ≡ false
 not_none true h = refl
 not_none false h = absurd cc
 
-there_is : {X : Type 0} (o : Option X) → is_some o ≡ true → is_none o ≡ false
+pub there_is : {X : Type 0} (o : Option X) → is_some o ≡ true → is_none o ≡ false
 there_is None h = absurd cc
 there_is (Some x) h = refl
 
-no_less : (n : ℕ) → 8192 ≤ n → nat_lt n 8192 ≡ false
+pub no_less : (n : ℕ) → 8192 ≤ n → nat_lt n 8192 ≡ false
 no_less n h = grind (arith, common_steps)
 
-no_user : (pools : List PoolState) (path : Text) → FreeOf pools path → is_some (pool_using path pools) ≡ false
+pub no_user : (pools : List PoolState) (path : Text) → FreeOf pools path → is_some (pool_using path pools) ≡ false
 no_user pools path h = rw (find_none (uses path) pools h) refl
 
 some_distinct : (paths : List Text) → (length paths == 0) ≡ false → (length (distinct paths) == 0) ≡ false
 some_distinct [] h = absurd cc
 some_distinct (path ∷ paths) h = grind (arith, common_steps)
 
-distinct_shorter : (paths : List Text) → length (distinct paths) ≤ length paths
+pub distinct_shorter : (paths : List Text) → length (distinct paths) ≤ length paths
 distinct_shorter [] = omega arith
 distinct_shorter (path ∷ paths) =
     let fewer = filter_shorter (λ q. not (bytes_eq path q)) (distinct paths) in
     let rest = distinct_shorter paths in
     omega (arith, fewer, rest)
 
-not_many : (n : ℕ) → n ≤ 16 → nat_lt 16 n ≡ false
+pub not_many : (n : ℕ) → n ≤ 16 → nat_lt 16 n ≡ false
 not_many n h = grind (arith, common_steps)
 
 not_full : (count next : ℕ) → count < 16 → next ≤ 2 ^ 48 → (nat_le 16 count || nat_lt (2 ^ 48) next) ≡ false

@@ -32,14 +32,14 @@ none_held name paths (Some pool) h = one_of (is_made name paths pool) _ _ h
 abbrev pub FreeOf : List PoolState → Text → Type 0
 FreeOf pools path = AllByRecursion (λ p. uses path p ≡ false) pools
 
-no_user : (pools : List PoolState) (path : Text) → is_some (pool_using path pools) ≡ false → FreeOf pools path
+pub no_user : (pools : List PoolState) (path : Text) → is_some (pool_using path pools) ≡ false → FreeOf pools path
 no_user pools path h = none_found (uses path) pools (none_of (pool_using path pools) h)
   where
     none_of : (o : Option PoolState) → is_some o ≡ false → o ≡ None
     none_of None h = refl
     none_of (Some p) h = absurd cc
 
-none_used : (pools : List PoolState) (o : Option Text) → ((path : Text) → o ≡ Some path → is_some (pool_using path pools) ≡ true) → refused_by (in_use pools o) ≡ None → o ≡ None
+pub none_used : (pools : List PoolState) (o : Option Text) → ((path : Text) → o ≡ Some path → is_some (pool_using path pools) ≡ true) → refused_by (in_use pools o) ≡ None → o ≡ None
 none_used pools None f h = refl
 none_used pools (Some path) f h = user (pool_using path pools) (f path refl) h
   where
@@ -51,7 +51,7 @@ so_not : (b : Bool) (c : Cause) → refused_where b c ≡ None → b ≡ false
 so_not true c h = absurd cc
 so_not false c h = refl
 
-none_refused : (f : Text → Cause) (o : Option Text) → refused_by (option_map f o) ≡ None → o ≡ None
+pub none_refused : (f : Text → Cause) (o : Option Text) → refused_by (option_map f o) ≡ None → o ≡ None
 none_refused f None h = refl
 none_refused f (Some path) h = absurd cc
 
@@ -59,7 +59,7 @@ here : (o : Option DevRow) → is_none o ≡ false → is_some o ≡ true
 here None h = absurd cc
 here (Some row) h = refl
 
-no_less : (n : ℕ) → nat_lt n 8192 ≡ false → 8192 ≤ n
+pub no_less : (n : ℕ) → nat_lt n 8192 ≡ false → 8192 ≤ n
 no_less n h = grind (arith, common_steps)
 
 pub record IsFresh (s : EngineState) (name : Text) (paths : List Text) : Type 0 where

@@ -63,7 +63,7 @@ some-leaves : (is_in : Text → Bool) (a : Bool) (r : Reply) (s u : EngineState)
 some-leaves is_in true r s u h = h
 some-leaves is_in false r s u h = tt
 
-same_ok : (is_in : Text → Bool) (a b : Outcome) → AreAlike is_in a b → is_ok a ≡ is_ok b
+pub same_ok : (is_in : Text → Bool) (a b : Outcome) → AreAlike is_in a b → is_ok a ≡ is_ok b
 same_ok is_in None None h = refl
 same_ok is_in None (Some b) h = absurd h
 same_ok is_in (Some a) None h = absurd h

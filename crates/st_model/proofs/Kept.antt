@@ -1,6 +1,7 @@
 -- validity is kept where one pool is changed, and stays good
-use Rattle.std.proofs.Common.{◌≡◌, ℕ, ◌==◌, ◌&&◌, List, [], ◌∷◌, Bool, true, false, cond, map, Some, None, refl, sym, ap, ◌∙◌, subst}
+use Rattle.std.proofs.Common.{◌≡◌, ℕ, ◌==◌, ◌&&◌, List, [], ◌∷◌, Bool, true, false, cond, map, Some, None, refl, sym, ap, ◌∙◌, subst, arith}
 use Rattle.std.specs.List.{AllByRecursion, find}
+use Rattle.std.proofs.lemmas.Grind.{common_steps}
 use Rattle.std.proofs.lemmas.List.{length-map}
 use Rattle.std.proofs.lemmas.Slice.Eq.{bytes_eq-Decides}
 use Rattle.st_units.specs.declared.rows.DevRow.{DevRow}
@@ -14,7 +15,7 @@ use Rattle.st_model.specs.Valid.{Apart, AreThere, AreTaken, IsAccepted, is_there
 use Rattle.st_model.specs.ValidPool.{EachPair, IsValidIn, IsBefore, IsWhole, IsHalted}
 use Rattle.st_model.proofs.Lists.{All-map, EachPair-map, All-weaker}
 use Rattle.st_model.specs.Checks.{down}
-use Rattle.st_model.specs.Step.{changes, is_changed}
+use Rattle.st_model.specs.Step.{changes, is_changed, is_ok}
 use Rattle.st_model.specs.Lifted.{answer_of, answer_in, is_known, Doing, IsWithin, SameOutside, on_pool, changed, one_changed, runs_as}
 use Rattle.st_model.specs.Parts.{own}
 use Rattle.st_model.specs.Plain.{plain}
@@ -177,3 +178,23 @@ failed-valid s name call f is none new before on alone again h v =
     let same : (on_pool name f s).0 ≡ (f p).0 = ap (answer_of (λ q. (f q).0) (is_known name s)) o.own ∙ ap (answer_in (λ q. (f q).0) p) o.is_up in
     down_good s.next s.devices p call o.is_up good (on p.name (sym o.named)) none (before p)
     (subst IsAccepted (sym (alone s.devices p)) (alone-accepted name f s.devices (down call p) (sym o.named) (again p (subst (λ (r : Reply). ((r.code == 0) && changes r.result) ≡ true) same answered)))))
+
+-- the same of a call that may write without a change of its pool's records
+pub failed_ok-valid : (s : EngineState) (name : Text) (call : Call) (f : Doing) → plain s call ≡ Some (on_pool name f s) → devices_taken call ≡ [] → name_given call ≡ None
+    → ((p : PoolState) → IsHalted (down call p) → IsBefore (down call p) call)
+    → ((n : Text) → name ≡ n → IsOn n call)
+    → ((rows : List DevRow) (p : PoolState) → plain (alone_before rows (down call p) call) call ≡ Some (on_pool name f (alone_of rows (down call p))))
+    → ((p : PoolState) → (f (up (down call p))).0.code ≡ (f p).0.code)
+    → is_ok (plain s call) ≡ true → IsValid s → IsValid (changed name (down call) s)
+unfolding on_pool
+failed_ok-valid s name call f is none new before on alone again h v =
+    let answered : is_ok (Some (on_pool name f s)) ≡ true = subst (λ (o : Rattle.st_model.specs.Local.Outcome). is_ok o ≡ true) is h in
+    changed-valid s name (down call) v (down_shares call none new)
+    (λ p o good.
+    let same : (on_pool name f s).0 ≡ (f p).0 = ap (answer_of (λ q. (f q).0) (is_known name s)) o.own ∙ ap (answer_in (λ q. (f q).0) p) o.is_up in
+    let zero : (f p).0.code ≡ 0 = is_zero (f p).0.code (subst (λ (r : Reply). (r.code == 0) ≡ true) same answered) in
+    down_good s.next s.devices p call o.is_up good (on p.name (sym o.named)) none (before p)
+    (subst IsAccepted (sym (alone s.devices p)) (alone-accepted name f s.devices (down call p) (sym o.named) (again p ∙ zero))))
+  where
+    is_zero : (n : ℕ) → (n == 0) ≡ true → n ≡ 0
+    is_zero n h = grind (arith, common_steps)

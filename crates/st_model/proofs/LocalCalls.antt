@@ -1,30 +1,37 @@
 -- each call within one pool
-use Rattle.std.proofs.Common.{◌≡◌, ℕ, List, [], ◌∷◌, Bool, false, Option, Some, None, refl, sym, ◌∙◌, subst}
+use Rattle.std.proofs.Common.{◌≡◌, ℕ, List, [], ◌∷◌, Bool, ◌&&◌, Option, Some, None, refl, ap, ◌∙◌, subst}
 use Rattle.st_units.specs.declared.rows.FsSpec.{FsSpec}
 use Rattle.st_wants.specs.Names.{is_named, names_of}
 use Rattle.st_model.specs.declared.call.Call.{Call}
 use Rattle.st_model.specs.declared.call.Call.TheVariants.{CreatePool, DestroyPool, StopPool, StartPool, RenamePool, AddDataDevs, InitCache, AddCacheDevs, CreateFilesystems, DestroyFilesystems, SnapshotFilesystem, RenameFilesystem, SetSizeLimit, SetFsLimit, SetOverprovisioning, FsWrite, FsRead, Check, PoolReport, PoolReports, EngineStateReport, SetMerge, PowerCycle}
 use Rattle.st_model.specs.declared.entry.Env.{Env}
-use Rattle.st_model.specs.declared.state.EngineState.{EngineState}
 use Rattle.st_model.specs.Answer.{first_answer}
+use Rattle.st_model.specs.Checks.{fs_at, on_fs}
 use Rattle.st_model.specs.Look.{Text}
 use Rattle.st_model.specs.Laws.{Locality}
 use Rattle.st_model.specs.Lifted.{IsWithin}
-use Rattle.st_model.specs.Flight.{in_flight}
 use Rattle.st_model.specs.Plain.{plain}
 use Rattle.st_model.specs.Local.{IsLocal}
-use Rattle.st_model.specs.Parts.{AgreeOn}
-use Rattle.st_model.specs.Step.{touches, usual, wrote}
+use Rattle.st_model.specs.Parts.{own}
+use Rattle.st_model.specs.Step.{is_ok, usual}
+use Rattle.st_model.specs.Content.{touches_mapped}
+use Rattle.st_model.specs.InPlace.{sectors_in}
+use Rattle.st_model.specs.steps.Check.{check_answers, check_pool}
+use Rattle.st_model.specs.steps.FsRead.{fs_read, misses, read_answers, read_fs}
+use Rattle.st_model.specs.steps.FsWrite.{fs_write, write_answers, write_fs}
+use Rattle.st_model.specs.declared.call.Payload.{Payload}
 use Rattle.st_model.specs.steps.CreateFilesystems.{create_filesystems, to_create, fs_answers}
 use Rattle.st_model.specs.steps.PoolReport.{pool_report}
 use Rattle.st_model.specs.steps.SetFsLimit.{set_fs_limit, limit_answers}
-use Rattle.st_model.proofs.Inner.{IsInner, IsQuiet, only, fs_within, same_changed, unless_within, usual-local, by_doing}
-use Rattle.st_model.proofs.Lifting.{named_self}
+use Rattle.st_model.proofs.Inner.{IsInner, only, fs_within, same_changed, same_ok, unless_within, usual-local, by_doing}
+use Rattle.st_model.proofs.Lifting.{lifted-local, named_self}
 use Rattle.st_model.proofs.Reports.{reports-local}
+use Rattle.st_model.specs.steps.DestroyFilesystems.{destroy_filesystems, destroy_fs_answers, to_destroy}
 use Rattle.st_model.specs.steps.RenameFilesystem.{rename_filesystem, rename_fs, rename_fs_answers}
 use Rattle.st_model.specs.steps.SetMerge.{mark_fs, merge_answers, set_merge}
 use Rattle.st_model.specs.steps.SetOverprovisioning.{overprovisioning_answers, set_overprovisioning}
 use Rattle.st_model.specs.steps.SetSizeLimit.{limit_fs, set_size_limit, size_limit_answers}
+use Rattle.st_model.specs.steps.SnapshotFilesystem.{named_answer, snapshot_answers, snapshot_filesystem, take_snapshot}
 
 pub create-within : (specs : List FsSpec) → IsWithin (create_filesystems specs)
 unfolding create_filesystems
@@ -54,6 +61,29 @@ pub overprovisioning-within : (value : Bool) → IsWithin (set_overprovisioning 
 unfolding set_overprovisioning
 overprovisioning-within value p = unless_within (first_answer (overprovisioning_answers value p)) p _ (record { serial = refl; name = refl; mode = refl; devices = refl })
 
+pub destroy_fs-within : (names : List Text) → IsWithin (destroy_filesystems names)
+unfolding destroy_filesystems
+destroy_fs-within names p = unless_within (first_answer (destroy_fs_answers (to_destroy names p) p)) p _ (record { serial = refl; name = refl; mode = refl; devices = refl })
+
+pub snapshot-within : (origin name : Text) → IsWithin (snapshot_filesystem origin name)
+unfolding snapshot_filesystem
+snapshot-within origin name p =
+    unless_within (named_answer (fs_at origin p.filesystems) (fs_at name p.filesystems)) p (on_fs origin (take_snapshot name) p)
+    (fs_within (take_snapshot name) (λ fs p. unless_within (first_answer (snapshot_answers name fs p)) p _ (record { serial = refl; name = refl; mode = refl; devices = refl })) origin p)
+
+pub fs_write-within : (name : Text) (sector : ℕ) (payload : Payload) → IsWithin (fs_write name sector payload)
+unfolding fs_write
+fs_write-within name sector payload =
+    fs_within (write_fs sector payload) (λ fs p. unless_within (first_answer (write_answers fs sector (sectors_in payload) p)) p _ (record { serial = refl; name = refl; mode = refl; devices = refl })) name
+
+pub fs_read-within : (name : Text) (sector n : ℕ) → IsWithin (fs_read name sector n)
+unfolding fs_read
+fs_read-within name sector n = fs_within (read_fs sector n) (λ fs p. unless_within (first_answer (read_answers fs sector n)) p _ (record { serial = refl; name = refl; mode = refl; devices = refl })) name
+
+pub check-within : IsWithin check_pool
+unfolding check_pool
+check-within p = unless_within (first_answer (check_answers p)) p _ (record { serial = refl; name = refl; mode = refl; devices = refl })
+
 create-inner : (pool : Text) (specs : List FsSpec) → IsInner (only pool) (CreateFilesystems pool specs)
 create-inner pool specs = by_doing pool _ (create_filesystems specs) _ (λ s. refl) (create-within specs) (λ s. refl) (named_self pool, (refl, refl)) (λ s t a. refl) (λ s. refl)
 
@@ -63,17 +93,21 @@ limit-inner pool limit = by_doing pool _ (set_fs_limit limit) _ (λ s. refl) (li
 report-inner : (pool : Text) → IsInner (only pool) (PoolReport pool)
 report-inner pool = by_doing pool _ pool_report _ (λ s. refl) report-within (λ s. refl) tt (λ s t a. refl) (λ s. refl)
 
--- a call that isn't built yet
-unbuilt : (pool : Text) (call : Call) → ((s : EngineState) → plain s call ≡ None) → (flight : Option (Text × Call)) → ((s : EngineState) → in_flight s call ≡ flight) → IsQuiet (only pool) flight
-    → ((s t : EngineState) → AgreeOn (only pool) s t → touches s call ≡ touches t call) → ((s : EngineState) → wrote s call ≡ false) → IsInner (only pool) call
-unbuilt pool call is flight in_flight quiet touches wrote = record {
-  plain = record { alike = λ s t a. rw (is s, is t) tt; others = λ s. rw (is s) tt };
-  touches = touches;
-  wrote = λ s t a. wrote s ∙ sym (wrote t);
-  flight = flight;
-  in_flight = in_flight;
-  quiet = quiet;
-}
+-- a read writes where it misses, which its pool alone tells
+fs_read-inner : (pool fs : Text) (sector sectors : ℕ) → IsInner (only pool) (FsRead pool fs sector sectors)
+fs_read-inner pool fs sector sectors =
+    let call : Call = FsRead pool fs sector sectors in
+    let local = lifted-local pool (fs_read fs sector sectors) (fs_read-within fs sector sectors) in
+    record {
+      plain = local;
+      touches = λ s t a. ap (touches_mapped fs sector sectors) (a.pools pool (named_self pool));
+      wrote = λ s t a.
+          ap (λ b. b && misses fs sector sectors (own pool s)) (same_ok (only pool) (plain s call) (plain t call) (local.alike s t a))
+          ∙ ap (λ o. is_ok (plain t call) && misses fs sector sectors o) (a.pools pool (named_self pool));
+      flight = Some (pool, call);
+      in_flight = λ s. refl;
+      quiet = (named_self pool, (refl, refl));
+    }
 
 -- so for the names that the want has
 inner_at : (pool : Text) (names : List Text) (call : Call) (env : Env) → pool ∷ [] ≡ names → IsInner (only pool) call → IsLocal (is_named names) (λ s. usual s call env)
@@ -109,9 +143,9 @@ outcome-local (InitCache p devices) env names mode h = absurd cc
 outcome-local (AddCacheDevs p devices) env names mode h = absurd cc
 outcome-local EngineStateReport env names mode h = absurd cc
 outcome-local PowerCycle env names mode h = absurd cc
-outcome-local (DestroyFilesystems pool fs) env names mode h = inner_at pool names _ env (cc) (unbuilt pool (DestroyFilesystems pool fs) (λ s. refl) (Some (pool, DestroyFilesystems pool fs)) (λ s. refl) (named_self pool, (refl, refl)) (λ s t a. refl) (λ s. refl))
-outcome-local (SnapshotFilesystem pool origin new) env names mode h = inner_at pool names _ env (cc) (unbuilt pool (SnapshotFilesystem pool origin new) (λ s. refl) (Some (pool, SnapshotFilesystem pool origin new)) (λ s. refl) (named_self pool, (refl, refl)) (λ s t a. refl) (λ s. refl))
-outcome-local (FsWrite pool fs sector payload) env names mode h = inner_at pool names _ env (cc) (unbuilt pool (FsWrite pool fs sector payload) (λ s. refl) (Some (pool, FsWrite pool fs sector payload)) (λ s. refl) (named_self pool, (refl, refl)) (λ s t a. refl) (λ s. refl))
-outcome-local (FsRead pool fs sector sectors) env names mode h = inner_at pool names _ env (cc) (unbuilt pool (FsRead pool fs sector sectors) (λ s. refl) (Some (pool, FsRead pool fs sector sectors)) (λ s. refl) (named_self pool, (refl, refl)) (λ s t a. refl) (λ s. refl))
-outcome-local (Check pool) env names mode h = inner_at pool names _ env (cc) (unbuilt pool (Check pool) (λ s. refl) (Some (pool, Check pool)) (λ s. refl) (named_self pool, (refl, refl)) (λ s t a. refl) (λ s. refl))
+outcome-local (DestroyFilesystems pool fs) env names mode h = inner_at pool names _ env (cc) (by_doing pool (DestroyFilesystems pool fs) (destroy_filesystems fs) (Some (pool, DestroyFilesystems pool fs)) (λ s. refl) (destroy_fs-within fs) (λ s. refl) (named_self pool, (refl, refl)) (λ s t a. refl) (λ s. refl))
+outcome-local (SnapshotFilesystem pool origin new) env names mode h = inner_at pool names _ env (cc) (by_doing pool (SnapshotFilesystem pool origin new) (snapshot_filesystem origin new) (Some (pool, SnapshotFilesystem pool origin new)) (λ s. refl) (snapshot-within origin new) (λ s. refl) (named_self pool, (refl, refl)) (λ s t a. refl) (λ s. refl))
+outcome-local (FsWrite pool fs sector payload) env names mode h = inner_at pool names _ env (cc) (by_doing pool (FsWrite pool fs sector payload) (fs_write fs sector payload) (Some (pool, FsWrite pool fs sector payload)) (λ s. refl) (fs_write-within fs sector payload) (λ s. refl) (named_self pool, (refl, refl)) (λ s t a. ap (touches_mapped fs sector (sectors_in payload)) (a.pools pool (named_self pool))) (λ s. refl))
+outcome-local (FsRead pool fs sector sectors) env names mode h = inner_at pool names _ env (cc) (fs_read-inner pool fs sector sectors)
+outcome-local (Check pool) env names mode h = inner_at pool names _ env (cc) (by_doing pool (Check pool) check_pool (Some (pool, Check pool)) (λ s. refl) check-within (λ s. refl) (named_self pool, (refl, refl)) (λ s t a. refl) (λ s. refl))
 outcome-local (SetMerge pool fs value) env names mode h = inner_at pool names _ env (cc) (by_doing pool (SetMerge pool fs value) (set_merge fs value) (Some (pool, SetMerge pool fs value)) (λ s. refl) (set_merge-within fs value) (λ s. refl) (named_self pool, (refl, refl)) (λ s t a. refl) (λ s. refl))

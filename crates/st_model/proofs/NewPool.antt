@@ -15,7 +15,7 @@ use Rattle.st_model.specs.Checks.{sectors_of}
 use Rattle.st_model.proofs.Fresh.{IsFresh}
 use Rattle.st_model.proofs.Lists.{All-map, All-weaker, All-distinct, EachPair-map, distinct-differ}
 
-small_row : (path : Text) (rows : List DevRow) → AllByRecursion (λ (row : DevRow). row.sectors ≤ 2 ^ 32) rows → sectors_of path rows ≤ 2 ^ 32
+pub small_row : (path : Text) (rows : List DevRow) → AllByRecursion (λ (row : DevRow). row.sectors ≤ 2 ^ 32) rows → sectors_of path rows ≤ 2 ^ 32
 small_row path [] h = omega arith
 small_row path (row ∷ rows) h = here (bytes_eq row.path path) (small_row path rows h.1)
   where
@@ -35,7 +35,7 @@ all_data : (rows : List DevRow) (paths : List Text) → filter (λ (row : DevRow
 all_data rows [] = refl
 all_data rows (path ∷ paths) = ap (λ rs. record { path = path; tier = DataTier; sectors = sectors_of path rows } ∷ rs) (all_data rows paths)
 
-no_cache : (rows : List DevRow) (paths : List Text) → cache_rows (data_rows rows paths) ≡ []
+pub no_cache : (rows : List DevRow) (paths : List Text) → cache_rows (data_rows rows paths) ≡ []
 no_cache rows [] = refl
 no_cache rows (path ∷ paths) = no_cache rows paths
 
@@ -57,7 +57,7 @@ has_room (row ∷ rows) starts h =
     let rest = no_less (0 + usable_blocks row.sectors) (sectors_in rows) in
     omega (arith, first, rest)
 
-row_there : (path : Text) (o : Option DevRow) → is_some o ≡ true → option_map (λ (r : DevRow). r.sectors) o ≡ Some (unwrap_or (option_map (λ (r : DevRow). r.sectors) o) 0)
+pub row_there : (path : Text) (o : Option DevRow) → is_some o ≡ true → option_map (λ (r : DevRow). r.sectors) o ≡ Some (unwrap_or (option_map (λ (r : DevRow). r.sectors) o) 0)
 row_there path None h = absurd cc
 row_there path (Some row) h = refl
 

@@ -70,7 +70,7 @@ kept_number f n (c ∷ cells) h g = here (c.0 == n) refl (f c.0) refl g (kept_nu
     here true e false k g t = absurd (let same : c.0 ≡ n = equal_numbers c.0 n e in let off : f n ≡ false = subst (λ (m : ℕ). f m ≡ false) same k in let bad = clash (f n) off h in cc)
     here false e false k g t = t g
 
-fitting-valid : (p : PoolState) (filesystems : List FsState) (fs : FsState) → IsFitting p filesystems fs → AllByRecursion (λ (entry : ℕ × ℕ). is_mapped filesystems entry.1 ≡ true) fs.map → IsValidFs (with_filesystems filesystems p) fs
+pub fitting-valid : (p : PoolState) (filesystems : List FsState) (fs : FsState) → IsFitting p filesystems fs → AllByRecursion (λ (entry : ℕ × ℕ). is_mapped filesystems entry.1 ≡ true) fs.map → IsValidFs (with_filesystems filesystems p) fs
 fitting-valid p filesystems fs h m = record {
   from_one = h.from_one;
   below_next = h.below_next;
@@ -82,7 +82,7 @@ fitting-valid p filesystems fs h m = record {
   mapped = All-with _ _ _ fs.map (λ entry a b. record { within = a.within; from_one = a.from_one; below_next = a.below_next; kept = kept_number (is_mapped filesystems) entry.1 p.cells b a.kept }) h.mapped m;
 }
 
-cache_kept : (p : PoolState) (filesystems : List FsState) (o : Option CacheState) → IsCacheOf p o
+pub cache_kept : (p : PoolState) (filesystems : List FsState) (o : Option CacheState) → IsCacheOf p o
     → IsCacheOf (with_filesystems filesystems p) (Rattle.std.specs.Prelude.option_map (λ (cache : CacheState). record cache { cells = filter (is_mapped filesystems) cache.cells }) o)
 cache_kept p filesystems None h = h
 cache_kept p filesystems (Some cache) h =

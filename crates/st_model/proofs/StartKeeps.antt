@@ -3,7 +3,7 @@ use Rattle.std.proofs.Common.{◌≡◌, ℕ, ◌==◌, not, List, [], ◌∷◌
 use Rattle.std.specs.List.{AllByRecursion}
 use Rattle.st_units.specs.declared.cause.Cause.TheVariants.{DeviceFault}
 use Rattle.st_model.specs.declared.call.Call.{Call}
-use Rattle.st_model.specs.declared.call.Call.TheVariants.{CreatePool, StopPool, StartPool, RenamePool, CreateFilesystems, SetFsLimit, PoolReport, EngineStateReport, RenameFilesystem, SetSizeLimit, SetOverprovisioning, DestroyPool, PoolReports, PowerCycle, SetMerge}
+use Rattle.st_model.specs.declared.call.Call.TheVariants.{CreatePool, StopPool, StartPool, RenamePool, AddDataDevs, InitCache, AddCacheDevs, CreateFilesystems, DestroyFilesystems, SnapshotFilesystem, SetFsLimit, PoolReport, EngineStateReport, RenameFilesystem, SetSizeLimit, SetOverprovisioning, DestroyPool, PoolReports, PowerCycle, SetMerge, FsWrite, FsRead, Check}
 use Rattle.st_model.specs.declared.call.PoolId.{PoolId}
 use Rattle.st_model.specs.declared.entry.Env.{Env}
 use Rattle.st_model.specs.declared.entry.Env.TheVariants.{Plain, NoMem, FaultRead, FaultWrite, After, Before}
@@ -22,25 +22,42 @@ use Rattle.st_model.proofs.Flights.{found-holds, find_none}
 use Rattle.st_model.proofs.Lists.{filter-passes, All-weaker}
 use Rattle.st_model.specs.Found.{found_before, found_after, unsettled_in, taken_over, with_own_serial}
 use Rattle.st_model.specs.Step.{outcome, found, on_flight}
+use Rattle.st_model.specs.steps.AddCacheDevs.{more_cache}
+use Rattle.st_model.specs.steps.AddDataDevs.{data_devs}
 use Rattle.st_model.specs.steps.CreateFilesystems.{create_filesystems}
 use Rattle.st_model.specs.steps.SetFsLimit.{set_fs_limit}
 use Rattle.st_model.specs.steps.StartPool.{pool_meant, is_meant, start_pool, start_found, start_in}
+use Rattle.st_model.proofs.AddCalls.{data-call, init-call, more-call}
+use Rattle.st_model.proofs.AddFailed.{found_added-valid}
 use Rattle.st_model.proofs.Among.{IsPlaced, all_placed, All-with, same_number}
 use Rattle.st_model.proofs.EachKind.{IsGood, valid-good}
 use Rattle.st_model.proofs.FoundByLaw.{found_renamed-valid}
-use Rattle.st_model.proofs.LocalCalls.{create-within, limit-within, overprovisioning-within, rename_fs-within, size_limit-within, set_merge-within}
+use Rattle.st_model.proofs.LocalCalls.{create-within, destroy_fs-within, limit-within, overprovisioning-within, rename_fs-within, size_limit-within, set_merge-within, snapshot-within, check-within, fs_read-within, fs_write-within}
 use Rattle.st_model.proofs.ValidDestroy.{found_destroyed-valid}
+use Rattle.st_model.proofs.ValidDestroyFs.{destroy_fs-whole}
 use Rattle.st_model.proofs.ValidFields.{overprovisioning-whole, rename_filesystem-whole, size_limit-whole}
+use Rattle.st_model.specs.steps.DestroyFilesystems.{destroy_filesystems}
+use Rattle.st_model.specs.steps.InitCache.{new_cache}
 use Rattle.st_model.specs.steps.RenameFilesystem.{rename_filesystem}
 use Rattle.st_model.specs.steps.SetMerge.{set_merge}
 use Rattle.st_model.proofs.ValidMerge.{set_merge-whole}
 use Rattle.st_model.specs.steps.SetOverprovisioning.{set_overprovisioning}
 use Rattle.st_model.specs.steps.SetSizeLimit.{set_size_limit}
+use Rattle.st_model.specs.steps.SnapshotFilesystem.{snapshot_filesystem}
+use Rattle.st_model.specs.InPlace.{with_bytes}
+use Rattle.st_model.specs.steps.Check.{check_pool}
+use Rattle.st_model.specs.steps.FsRead.{fs_read}
+use Rattle.st_model.specs.steps.FsWrite.{fs_write}
+use Rattle.st_model.proofs.Recoded.{in_place-whole}
 use Rattle.st_model.proofs.Replaced.{vanished-valid}
+use Rattle.st_model.proofs.ValidCheck.{check-whole}
+use Rattle.st_model.proofs.ValidRead.{fs_read-whole}
+use Rattle.st_model.proofs.ValidWrite.{fs_write-whole}
 use Rattle.st_model.proofs.ValidCreateFs.{create-whole}
 use Rattle.st_model.proofs.ValidLimit.{limit-whole}
 use Rattle.st_model.proofs.ValidMaking.{found_made-valid}
-use Rattle.st_model.proofs.ValidStart.{IsValidAfter, where-valid, start-valid, cooled_start-valid, found_doing-valid}
+use Rattle.st_model.proofs.ValidSnapshot.{snapshot-whole}
+use Rattle.st_model.proofs.ValidStart.{IsValidAfter, where-valid, start-valid, cooled_start-valid, found_doing-valid, changed_start-valid}
 
 -- what is known of the pool that a start reaches
 record IsMet (s : EngineState) (p : PoolState) : Type 0 where
@@ -96,10 +113,20 @@ after-valid : (s : EngineState) (p : PoolState) → IsValid s → IsMet s p → 
 after-valid s p v met (CreatePool name devices) up = create-after s p name devices v met up
 after-valid s p v met (RenamePool name new) up =
     found_renamed-valid s p name new v met.placed (halted_of s p _ met up (λ h. h)) (rows_of s p _ met up) met.good (on_of s p _ met up) (ap flight_of up)
+after-valid s p v met (AddDataDevs pool devices) up =
+    found_added-valid data_devs AddDataDevs data-call s p pool devices v met.placed (halted_of s p _ met up (λ h. h)) (rows_of s p _ met up) met.good (on_of s p _ met up) (ap flight_of up)
+after-valid s p v met (InitCache pool devices) up =
+    found_added-valid new_cache InitCache init-call s p pool devices v met.placed (halted_of s p _ met up (λ h. h)) (rows_of s p _ met up) met.good (on_of s p _ met up) (ap flight_of up)
+after-valid s p v met (AddCacheDevs pool devices) up =
+    found_added-valid more_cache AddCacheDevs more-call s p pool devices v met.placed (halted_of s p _ met up (λ h. h)) (rows_of s p _ met up) met.good (on_of s p _ met up) (ap flight_of up)
 after-valid s p v met (CreateFilesystems pool specs) up =
     found_doing-valid s p pool (create_filesystems specs) v met.placed met.good (halted_of s p _ met up (λ h. h)) (rows_of s p _ met up) (on_of s p _ met up) (create-within specs) (create-whole specs)
 after-valid s p v met (SetFsLimit pool limit) up =
     found_doing-valid s p pool (set_fs_limit limit) v met.placed met.good (halted_of s p _ met up (λ h. h)) (rows_of s p _ met up) (on_of s p _ met up) (limit-within limit) (limit-whole limit)
+after-valid s p v met (DestroyFilesystems pool names) up =
+    found_doing-valid s p pool (destroy_filesystems names) v met.placed met.good (halted_of s p _ met up (λ h. h)) (rows_of s p _ met up) (on_of s p _ met up) (destroy_fs-within names) (destroy_fs-whole names)
+after-valid s p v met (SnapshotFilesystem pool origin new) up =
+    found_doing-valid s p pool (snapshot_filesystem origin new) v met.placed met.good (halted_of s p _ met up (λ h. h)) (rows_of s p _ met up) (on_of s p _ met up) (snapshot-within origin new) (snapshot-whole origin new)
 after-valid s p v met (RenameFilesystem pool fs new) up =
     found_doing-valid s p pool (rename_filesystem fs new) v met.placed met.good (halted_of s p _ met up (λ h. h)) (rows_of s p _ met up) (on_of s p _ met up) (rename_fs-within fs new) (rename_filesystem-whole fs new)
 after-valid s p v met (SetSizeLimit pool fs limit) up =
@@ -108,6 +135,12 @@ after-valid s p v met (SetOverprovisioning pool value) up =
     found_doing-valid s p pool (set_overprovisioning value) v met.placed met.good (halted_of s p _ met up (λ h. h)) (rows_of s p _ met up) (on_of s p _ met up) (overprovisioning-within value) (overprovisioning-whole value)
 after-valid s p v met (SetMerge pool fs value) up =
     found_doing-valid s p pool (set_merge fs value) v met.placed met.good (halted_of s p _ met up (λ h. h)) (rows_of s p _ met up) (on_of s p _ met up) (set_merge-within fs value) (set_merge-whole fs value)
+after-valid s p v met (FsWrite pool fs sector payload) up =
+    found_doing-valid s p pool (fs_write fs sector payload) v met.placed met.good (halted_of s p _ met up (λ h. h)) (rows_of s p _ met up) (on_of s p _ met up) (fs_write-within fs sector payload) (fs_write-whole fs sector payload)
+after-valid s p v met (FsRead pool fs sector sectors) up =
+    found_doing-valid s p pool (fs_read fs sector sectors) v met.placed met.good (halted_of s p _ met up (λ h. h)) (rows_of s p _ met up) (on_of s p _ met up) (fs_read-within fs sector sectors) (fs_read-whole fs sector sectors)
+after-valid s p v met (Check pool) up =
+    found_doing-valid s p pool check_pool v met.placed met.good (halted_of s p _ met up (λ h. h)) (rows_of s p _ met up) (on_of s p _ met up) check-within check-whole
 after-valid s p v met (DestroyPool name) up =
     found_destroyed-valid s p name v met.placed (halted_of s p _ met up (λ h. h)) (rows_of s p _ met up) met.good (on_of s p _ met up)
 after-valid s p v met (StopPool name) up = absurd (on_of s p _ met up)
@@ -116,10 +149,11 @@ after-valid s p v met (PoolReport pool) up = absurd (on_of s p _ met up)
 after-valid s p v met (PoolReports pools) up = absurd (on_of s p _ met up)
 after-valid s p v met PowerCycle up = absurd (on_of s p _ met up)
 after-valid s p v met EngineStateReport up = absurd (on_of s p _ met up)
-after-valid s p v met _ up = tt
 
 before-found : (s : EngineState) (p : PoolState) (bytes : List ℕ) → IsValid s → IsMet s p → (call : Call) → p.mode ≡ Unsettled call → IsValidAfter (found_before s p call bytes)
 before-found s p bytes v met (CreatePool name devices) up = where-valid _ _ (vanished-valid s p v)
+before-found s p bytes v met (FsWrite pool fs sector payload) up =
+    where-valid _ _ (changed_start-valid s p (with_bytes p (FsWrite pool fs sector payload) bytes) v met.placed (halted_of s p _ met up (λ h. h)) (rows_of s p _ met up) met.good refl refl refl (in_place-whole p pool fs sector payload bytes))
 before-found s p bytes v met _ up = where-valid _ _ (start-valid s p v met.placed (halted_of s p _ met up (λ h. h)) (rows_of s p _ met up) met.good)
 
 found-valid : (s : EngineState) (f : PoolState → Call → _) → ((p : PoolState) (call : Call) → IsMet s p → p.mode ≡ Unsettled call → IsValidAfter (f p call)) → (o : Option PoolState) → ((p : PoolState) → o ≡ Some p → IsMet s p) → IsValidAfter (found f o)

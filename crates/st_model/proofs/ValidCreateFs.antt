@@ -34,15 +34,15 @@ or_more b c true h e = refl
 or_more b c false h e = h e
 
 module _ {X : Type 0} where
-  All-append : (P : X → Type 0) (xs ys : List X) → AllByRecursion P xs → AllByRecursion P ys → AllByRecursion P (xs ++ ys)
+  pub All-append : (P : X → Type 0) (xs ys : List X) → AllByRecursion P xs → AllByRecursion P ys → AllByRecursion P (xs ++ ys)
   All-append P [] ys h g = g
   All-append P (x ∷ xs) ys h g = (h.0, All-append P xs ys h.1 g)
 
-  EachPair-append : (R : X → X → Type 0) (xs ys : List X) → EachPair R xs → EachPair R ys → AllByRecursion (λ x. AllByRecursion (R x) ys) xs → EachPair R (xs ++ ys)
+  pub EachPair-append : (R : X → X → Type 0) (xs ys : List X) → EachPair R xs → EachPair R ys → AllByRecursion (λ x. AllByRecursion (R x) ys) xs → EachPair R (xs ++ ys)
   EachPair-append R [] ys h g a = g
   EachPair-append R (x ∷ xs) ys h g a = (All-append (R x) xs ys h.0 a.0, EachPair-append R xs ys h.1 g a.1)
 
-  any_more : (p : X → Bool) (xs ys : List X) → list_any p xs ≡ true → list_any p (xs ++ ys) ≡ true
+  pub any_more : (p : X → Bool) (xs ys : List X) → list_any p xs ≡ true → list_any p (xs ++ ys) ≡ true
   any_more p [] ys h = absurd cc
   any_more p (x ∷ xs) ys h = or_more (list_any p xs) (list_any p (xs ++ ys)) (p x) (any_more p xs ys) h
 
@@ -63,7 +63,7 @@ module _ {X Y : Type 0} where
   put_first R y ys [] h g = tt
   put_first R y ys (x ∷ xs) h g = ((h.0, g.0), put_first R y ys xs h.1 g.1)
 
-  turned : (R : X → Y → Type 0) (xs : List X) (ys : List Y) → AllByRecursion (λ y. AllByRecursion (λ x. R x y) xs) ys → AllByRecursion (λ x. AllByRecursion (R x) ys) xs
+  pub turned : (R : X → Y → Type 0) (xs : List X) (ys : List Y) → AllByRecursion (λ y. AllByRecursion (λ x. R x y) xs) ys → AllByRecursion (λ x. AllByRecursion (R x) ys) xs
   turned R xs [] h = all_empty R xs
   turned R xs (y ∷ ys) h = put_first R y ys xs h.0 (turned R xs ys h.1)
 
@@ -168,7 +168,7 @@ new_unmarked : (k : ℕ) (specs : List FsSpec) (serial : ℕ) → is_marked seri
 new_unmarked k [] serial = refl
 new_unmarked k (spec ∷ specs) serial = new_unmarked (k + 1) specs serial
 
-old_valid : (p q : PoolState) (new : List FsState) → ((serial : ℕ) → is_marked serial new ≡ false) → q.filesystems ≡ p.filesystems ++ new → p.next_filesystem ≤ q.next_filesystem → q.next_cell ≡ p.next_cell → q.cells ≡ p.cells → (fs : FsState) → IsValidFs p fs → IsValidFs q fs
+pub old_valid : (p q : PoolState) (new : List FsState) → ((serial : ℕ) → is_marked serial new ≡ false) → q.filesystems ≡ p.filesystems ++ new → p.next_filesystem ≤ q.next_filesystem → q.next_cell ≡ p.next_cell → q.cells ≡ p.cells → (fs : FsState) → IsValidFs p fs → IsValidFs q fs
 old_valid p q new unmarked e later n c fs h = record {
   from_one = h.from_one;
   below_next = (let b = h.below_next in omega (arith, b, later));

@@ -3,6 +3,9 @@ use Rattle.std.proofs.Common.{◌≡◌, ℕ, ◌+◌, ◌<◌, ◌≤◌, ◌^�
 use Rattle.std.specs.List.{AllByRecursion}
 use Rattle.std.proofs.lemmas.Slice.Eq.{bytes_eq-Decides}
 use Rattle.st_units.specs.declared.rows.DevRow.{DevRow}
+use Rattle.st_units.specs.declared.rows.Tier.{Tier}
+use Rattle.st_units.specs.declared.rows.Tier.TheVariants.{DataTier}
+use Rattle.st_model.specs.Checks.{rows_on}
 use Rattle.st_model.specs.declared.call.Call.TheVariants.{CreatePool}
 use Rattle.st_model.specs.declared.reply.Reply.{Reply}
 use Rattle.st_model.specs.declared.state.EngineState.{EngineState}
@@ -18,6 +21,7 @@ use Rattle.st_model.proofs.NewPool.{new-there, new-small, new-whole, broken-begu
 use Rattle.st_model.specs.Flight.{state_before}
 use Rattle.st_model.specs.Found.{started_so}
 use Rattle.st_model.proofs.Among.{IsPlaced, holds_own}
+use Rattle.st_model.proofs.CreateKind.{each_among}
 use Rattle.st_model.proofs.EachKind.{IsGood, valid-good, good-valid}
 use Rattle.st_model.proofs.Replaced.{started_so-valid}
 
@@ -32,17 +36,13 @@ or_right false b h = h
 clash : (b : Bool) → b ≡ false → b ≡ true → ⊥
 clash b f t = absurd cc
 
-has_row : (path : Text) (rows : List DevRow) (paths : List Text) → is_some (row_of path (data_rows rows paths)) ≡ true → has_path path paths ≡ true
-has_row path rows [] h = h
-has_row path rows (p ∷ paths) h = here (bytes_eq p path) _ _ h (has_row path rows paths)
+pub has_row : (path : Text) (tier : Tier) (rows : List DevRow) (paths : List Text) → is_some (row_of path (rows_on tier rows paths)) ≡ true → has_path path paths ≡ true
+has_row path tier rows [] h = h
+has_row path tier rows (p ∷ paths) h = here (bytes_eq p path) _ _ h (has_row path tier rows paths)
   where
     here : (b : Bool) (row : DevRow) (rest : Option DevRow) → is_some (cond b (Some row) rest) ≡ true → (is_some rest ≡ true → has_path path paths ≡ true) → (b || has_path path paths) ≡ true
     here true row rest h f = refl
     here false row rest h f = f h
-
-each_among : (paths : List Text) → AllByRecursion (λ path. has_path path paths ≡ true) paths
-each_among [] = tt
-each_among (path ∷ paths) = (rw ((bytes_eq-Decides path path).1 refl) refl, All-weaker _ _ paths (λ q h. or_right (bytes_eq path q) _ h) (each_among paths))
 
 -- a path that was taken once was given
 was_given : (path : Text) (paths : List Text) → has_path path (distinct paths) ≡ true → has_path path paths ≡ true
@@ -70,7 +70,7 @@ found_made-valid s p name paths v placed good flight on none =
     (record {
       serial = refl;
       names = λ n h. let same : name ≡ n = (bytes_eq-Decides name n).0 (sym (or_false _) ∙ h) in subst (λ (m : Text). holds m p ≡ true) (sym on ∙ same) (holds_own p);
-      devices = λ path h. or_right _ _ (ap (takes_path path) flight ∙ was_given path paths (has_row path s.devices (distinct paths) (sym (or_false _) ∙ h)));
+      devices = λ path h. or_right _ _ (ap (takes_path path) flight ∙ was_given path paths (has_row path DataTier s.devices (distinct paths) (sym (or_false _) ∙ h)));
     })
 
 later_good : (next : ℕ) (rows : List DevRow) (p : PoolState) → IsGood next rows p → IsGood (next + 1) rows p
@@ -108,7 +108,7 @@ made_is : (s : EngineState) (name : Text) (paths : List Text) → IsMade s name 
 made_is s name paths = record {
   serial = refl;
   names = λ n h. (bytes_eq-Decides name n).0 (sym (or_false _) ∙ h);
-  devices = λ path h. was_given path paths (has_row path s.devices (distinct paths) (sym (or_false _) ∙ h));
+  devices = λ path h. was_given path paths (has_row path DataTier s.devices (distinct paths) (sym (or_false _) ∙ h));
 }
 
 broken_is : (s : EngineState) (name : Text) (paths : List Text) → IsMade s name paths (broken_pool s.next name (distinct paths))

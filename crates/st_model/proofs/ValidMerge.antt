@@ -217,7 +217,7 @@ no_first fs xs h = All-weaker _ _ xs (λ x. no_conflict fs x) (none_found _ xs (
     here None h = refl
     here (Some x) h = absurd cc
 
-valid_in : (p : PoolState) (fs : FsState) (xs : List FsState) → IsIn fs xs → AllByRecursion (IsValidFs p) xs → IsValidFs p fs
+pub valid_in : (p : PoolState) (fs : FsState) (xs : List FsState) → IsIn fs xs → AllByRecursion (IsValidFs p) xs → IsValidFs p fs
 valid_in p fs [] i h = absurd i
 valid_in p fs (x ∷ xs) (inl e) h = subst (IsValidFs p) e h.0
 valid_in p fs (x ∷ xs) (inr i) h = valid_in p fs xs i h.1

@@ -124,6 +124,20 @@ cooled_start-valid s p v placed halted there good =
 pub start-valid : (s : EngineState) (p : PoolState) → IsValid s → IsPlaced s.devices s.pools p → IsHalted p → AllByRecursion (IsRow s.devices) p.devices → IsGood s.next s.devices p → IsValid (started_so s p p).1
 start-valid s p v placed halted there good = started_so-valid s p (up p) v placed refl (up-good s.next s.devices p halted there good) (up-less p)
 
+-- and so is another that differs from it within alone
+pub changed_start-valid : (s : EngineState) (p q : PoolState) → IsValid s → IsPlaced s.devices s.pools p → IsHalted p → AllByRecursion (IsRow s.devices) p.devices → IsGood s.next s.devices p
+    → q.serial ≡ p.serial → q.name ≡ p.name → q.devices ≡ p.devices → (IsWhole p → IsWhole q) → IsValid (started_so s p q).1
+changed_start-valid s p q v placed halted there good serial name devices whole =
+    let first = up-good s.next s.devices p halted there good in
+    let second : IsGood s.next s.devices (up q) =
+    up_good s.next s.devices (up p) (up q) refl first (record { serial = serial; name = name; mode = refl; devices = devices }) (λ w. moved-whole q Up (whole halted.whole)) in
+    let less = up-less p in
+    started_so-valid s p (up q) v placed refl second (record {
+      serial = serial;
+      names = λ n h. less.names n (subst (λ (m : Text). holds n (record (up p) { name = m }) ≡ true) name h);
+      devices = λ path h. less.devices path (subst (λ (l : List DevRow). uses path (record (up p) { devices = l }) ≡ true) devices h);
+    })
+
 -- the pool after a call within it, in the state after it
 other_named : (name : Text) (rows : List DevRow) (p x : PoolState) → name ≡ p.name → IsOther rows p x → is_called name x ≡ false
 other_named name rows p x e o = rw e (first (is_called p.name x) _ (o.names p.name (holds_own p)))

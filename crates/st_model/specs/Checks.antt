@@ -5,6 +5,7 @@ use Rattle.st_units.specs.declared.cause.Cause.{Cause}
 use Rattle.st_units.specs.declared.cause.Cause.TheVariants.{EmptyDevices, NoSuchDevice, DeviceInUse, DeviceTooSmall, NoSuchFilesystem, OverProvision, PoolStopped, Maintenance, Worn}
 use Rattle.st_units.specs.declared.rows.DevRow.{DevRow}
 use Rattle.st_units.specs.declared.rows.FsRow.{FsRow}
+use Rattle.st_units.specs.declared.rows.Tier.{Tier}
 use Rattle.st_model.specs.declared.call.Call.{Call}
 use Rattle.st_model.specs.declared.reply.Reply.{Reply}
 use Rattle.st_model.specs.declared.state.CacheState.{CacheState}
@@ -35,6 +36,10 @@ used_device paths pools = refused_by (in_use pools (first_used paths pools))
 
 abbrev pub sectors_of : Text → List DevRow → ℕ
 sectors_of path rows = unwrap_or (option_map (λ (row : DevRow). row.sectors) (row_of path rows)) 0
+
+-- a row of this tier for each of the paths, with the sectors that the rack gives it
+abbrev pub rows_on : Tier → List DevRow → List Text → List DevRow
+rows_on tier rack paths = map (λ path. record { path = path; tier = tier; sectors = sectors_of path rack }) paths
 
 abbrev pub first_small : List Text → List DevRow → Option Text
 first_small paths rows = find (λ path. nat_lt (sectors_of path rows) MIN_DEVICE_SECTORS) paths

@@ -23,13 +23,13 @@ abbrev pub state_before : EngineState → PoolState → Call → EngineState
 state_before s p (CreatePool name devices) = record s { pools = all_but p.serial s.pools; next = p.serial }
 state_before s p _ = record s { pools = map (started_as p.serial) s.pools }
 
-abbrev pub data_of : Option PoolState → List Text
-data_of None = []
-data_of (Some p) = data_paths p.devices
+abbrev pub cache_paths : List DevRow → List Text
+cache_paths rows = map (λ (row : DevRow). row.path) (cache_rows rows)
 
-abbrev pub cache_of : Option PoolState → List Text
-cache_of None = []
-cache_of (Some p) = map (λ (row : DevRow). row.path) (cache_rows p.devices)
+-- the devices of a tier, where there is the pool
+abbrev pub paths_in : (List DevRow → List Text) → Option PoolState → List Text
+paths_in tier None = []
+paths_in tier (Some p) = tier p.devices
 
 -- the devices that are new to the tier, each once
 abbrev pub new_to : List Text → List Text → List Text
@@ -39,9 +39,9 @@ new_to tier devices = filter (λ path. not (has_path path tier)) (distinct devic
 abbrev pub in_flight : EngineState → Call → Option (Text × Call)
 in_flight s (DestroyPool name) = Some (name, DestroyPool name)
 in_flight s (RenamePool name new) = Some (name, RenamePool name new)
-in_flight s (AddDataDevs pool devices) = Some (pool, AddDataDevs pool (new_to (data_of (pool_at pool s.pools)) devices))
-in_flight s (InitCache pool devices) = Some (pool, InitCache pool (new_to (cache_of (pool_at pool s.pools)) devices))
-in_flight s (AddCacheDevs pool devices) = Some (pool, AddCacheDevs pool (new_to (cache_of (pool_at pool s.pools)) devices))
+in_flight s (AddDataDevs pool devices) = Some (pool, AddDataDevs pool (new_to (paths_in data_paths (pool_at pool s.pools)) devices))
+in_flight s (InitCache pool devices) = Some (pool, InitCache pool (new_to (paths_in cache_paths (pool_at pool s.pools)) devices))
+in_flight s (AddCacheDevs pool devices) = Some (pool, AddCacheDevs pool (new_to (paths_in cache_paths (pool_at pool s.pools)) devices))
 in_flight s (CreateFilesystems pool filesystems) = Some (pool, CreateFilesystems pool filesystems)
 in_flight s (DestroyFilesystems pool names) = Some (pool, DestroyFilesystems pool names)
 in_flight s (SnapshotFilesystem pool origin name) = Some (pool, SnapshotFilesystem pool origin name)

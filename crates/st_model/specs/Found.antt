@@ -2,7 +2,7 @@
 use Rattle.std.specs.Prelude.{ℕ, ◌==◌, nat_lt, List, length, find, Bool, true, false, ◌&&◌, Option, Some, None}
 use Rattle.st_units.specs.declared.cause.Cause.TheVariants.{PoolVanished}
 use Rattle.st_model.specs.declared.call.Call.{Call}
-use Rattle.st_model.specs.declared.call.Call.TheVariants.{CreatePool}
+use Rattle.st_model.specs.declared.call.Call.TheVariants.{CreatePool, FsWrite}
 use Rattle.st_model.specs.declared.reply.Reply.{Reply}
 use Rattle.st_model.specs.declared.state.EngineState.{EngineState}
 use Rattle.st_model.specs.declared.state.PoolMode.{PoolMode}
@@ -11,6 +11,7 @@ use Rattle.st_model.specs.declared.state.PoolState.{PoolState}
 use Rattle.st_model.specs.Answer.{refused}
 use Rattle.st_model.specs.Checks.{settled}
 use Rattle.st_model.specs.Flight.{all_but, state_before}
+use Rattle.st_model.specs.InPlace.{in_place, size_of, with_bytes}
 use Rattle.st_model.specs.Local.{Outcome, where_so}
 use Rattle.st_model.specs.Plain.{plain}
 use Rattle.st_model.specs.steps.StartPool.{with_serial, started_reply}
@@ -29,9 +30,12 @@ vanished s p = (refused PoolVanished, record s { pools = all_but p.serial s.pool
 abbrev pub started_so : EngineState → PoolState → PoolState → Reply × EngineState
 started_so s p q = (started_reply p, with_serial p.serial (settled q) s)
 
--- the state before the call
+-- the state before the call; of a write, with these bytes in the sectors that it was to change in place
 abbrev pub found_before : EngineState → PoolState → Call → List ℕ → Outcome
 found_before s p (CreatePool name devices) bytes = where_so (length bytes == 0) (vanished s p)
+found_before s p (FsWrite pool name sector payload) bytes =
+    let call : Call = FsWrite pool name sector payload in
+    where_so (length bytes == size_of (in_place p call)) (started_so s p (with_bytes p call bytes))
 found_before s p _ bytes = where_so (length bytes == 0) (started_so s p p)
 
 abbrev pub with_own_serial : ℕ → EngineState → Option PoolState

@@ -1,7 +1,9 @@
 pub mod Answer
 pub mod Checks
+pub mod Content
 pub mod Flight
 pub mod Found
+pub mod InPlace
 pub mod Laws
 pub mod Lifted
 pub mod Local

@@ -2,7 +2,7 @@
 use Rattle.std.specs.Prelude.{◌≡◌, ◌==◌, Bool, true, false, ◌&&◌, Option, Some, None, is_some, unwrap_or}
 use Rattle.st_units.specs.declared.cause.Cause.TheVariants.{DeviceFault, OutOfMemory}
 use Rattle.st_model.specs.declared.call.Call.{Call}
-use Rattle.st_model.specs.declared.call.Call.TheVariants.{CreatePool, StartPool, EngineStateReport}
+use Rattle.st_model.specs.declared.call.Call.TheVariants.{CreatePool, StartPool, FsWrite, FsRead, EngineStateReport}
 use Rattle.st_model.specs.declared.entry.Env.{Env}
 use Rattle.st_model.specs.declared.entry.Env.TheVariants.{Plain, NoMem, FaultRead, FaultWrite, After, Before}
 use Rattle.st_model.specs.declared.reply.Given.{Given}
@@ -14,6 +14,10 @@ use Rattle.st_model.specs.declared.state.PoolMode.TheVariants.{Up, Down, Stopped
 use Rattle.st_model.specs.declared.state.PoolState.{PoolState}
 use Rattle.st_model.specs.Answer.{refused}
 use Rattle.st_model.specs.Look.{Text, distinct}
+use Rattle.st_model.specs.Content.{touches_mapped}
+use Rattle.st_model.specs.InPlace.{sectors_in}
+use Rattle.st_model.specs.Parts.{own}
+use Rattle.st_model.specs.steps.FsRead.{misses}
 use Rattle.st_model.specs.steps.CreatePool.{with_pool, broken_pool}
 use Rattle.st_model.specs.Checks.{down}
 use Rattle.st_model.specs.Flight.{in_flight}
@@ -52,12 +56,15 @@ abbrev pub is_ok : Outcome → Bool
 is_ok None = false
 is_ok (Some answered) = answered.0.code == 0
 
--- the call reads a device before it writes
+-- the call reads a device before it writes one: it reads or writes sectors, and a block of them is mapped
 abbrev pub touches : EngineState → Call → Bool
+touches s (FsWrite pool name sector payload) = touches_mapped name sector (sectors_in payload) (own pool s)
+touches s (FsRead pool name sector sectors) = touches_mapped name sector sectors (own pool s)
 touches s call = false
 
--- the call wrote: it was answered Ok and changed
+-- the call wrote: it was answered Ok and changed; a read writes where it misses, since the cache takes the cell in
 abbrev pub wrote : EngineState → Call → Bool
+wrote s (FsRead pool name sector sectors) = is_ok (plain s (FsRead pool name sector sectors)) && misses name sector sectors (own pool s)
 wrote s call = is_changed (plain s call)
 
 abbrev pub fault_on : EngineState → Option (Text × Call) → Bool → Outcome

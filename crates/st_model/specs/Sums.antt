@@ -1,5 +1,5 @@
 -- what reports say of a pool's space; all counts are of blocks
-use Rattle.std.specs.Prelude.{ℕ, ◌≤◌, List, length, sum_by, map, filter, not, Bool, true, false}
+use Rattle.std.specs.Prelude.{ℕ, ◌-◌, ◌≤◌, List, length, sum_by, map, filter, not, Bool, true, false}
 use Rattle.std.specs.List.{AllByRecursion}
 use Rattle.st_units.specs.declared.rows.DevRow.{DevRow}
 use Rattle.st_units.specs.declared.rows.Tier.{Tier}
@@ -35,6 +35,10 @@ mappings pool = sum_by (λ (fs : FsState). length fs.map) pool.filesystems
 -- the distinct cells that are mapped: a state has just the cells that some map names
 abbrev pub used : PoolState → ℕ
 used pool = length pool.cells
+
+-- the allocated blocks that no cell has
+abbrev pub free : PoolState → ℕ
+free pool = pool.allocated - used pool
 
 -- few devices, none too large, so that no sum of their blocks is out of range
 pub record AreSmall (rows : List DevRow) : Type 0 where

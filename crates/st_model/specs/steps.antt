@@ -1,7 +1,15 @@
+pub mod AddCacheDevs
+pub mod AddDataDevs
+pub mod AddDevices
+pub mod Check
 pub mod CreateFilesystems
 pub mod CreatePool
+pub mod DestroyFilesystems
 pub mod DestroyPool
 pub mod EngineStateReport
+pub mod InitCache
+pub mod FsRead
+pub mod FsWrite
 pub mod PoolReport
 pub mod PoolReports
 pub mod PowerCycle
@@ -11,5 +19,6 @@ pub mod SetFsLimit
 pub mod SetMerge
 pub mod SetOverprovisioning
 pub mod SetSizeLimit
+pub mod SnapshotFilesystem
 pub mod StartPool
 pub mod StopPool

@@ -5,7 +5,6 @@ pub mod OneCall
 pub mod Opened
 pub mod Parts
 pub mod Places
-pub mod Printed
 pub mod Runs
 pub mod Shown
 pub mod Steps

@@ -1,25 +1,17 @@
 -- what a run has done when its lines have run
-use Rattle.std.proofs.Common.{◌≡◌, ℕ, List, [], Bool, Option, Some, None, refl, ap, subst}
+use Rattle.std.proofs.Common.{◌≡◌, ℕ, List, [], Bool, Option, refl, ap, subst}
 use Rattle.st_rack.specs.Calls.{Devices}
 use Rattle.st_wants.specs.Lock.{Lock}
-use Rattle.st_lines.specs.Lines.{lines_of}
-use Rattle.st_lines.proofs.Known.{Appends-start}
+use Rattle.st_lines.proofs.Known.{lines_for}
+use Rattle.st_lines.proofs.Printed.{started_nothing}
 use Rattle.st_history.specs.declared.log.Event.{Event}
 use Rattle.st_model.specs.declared.state.EngineState.{EngineState}
 use Rattle.st_session.specs.inner.View.{SessionView}
 use Rattle.st_session.specs.inner.Going.{IsGoing}
-use Rattle.st_session.specs.Headline.{AreLinesOf, IsRunOf, IsCutOff}
+use Rattle.st_session.specs.Headline.{IsRunOf, IsCutOff}
 use Rattle.st_session.specs.Opening.{opening}
 use Rattle.st_session.specs.Out.{out}
-use Rattle.st_session.specs.Statuses.{Started}
 use Rattle.st_session.proofs.Laned.{laned_start, laned-LaneOrder}
-
-lines_for : (left : Option (List ℕ)) → (lines : List (List ℕ)) × AreLinesOf left lines
-lines_for None = ([], tt)
-lines_for (Some input) = (lines_of input, refl)
-
-pub started_nothing : (held : Option (List ℕ)) (whole : List ℕ) → Started held held whole
-started_nothing held whole = record { written = []; rest = whole; took = Appends-start held; makes = refl }
 
 pub going-IsRunOf : (devs : Devices) (lanes : ℕ) (lines : List (List ℕ)) (s : EngineState) (i : ℕ) (session : SessionView) → s ≡ opening devs → IsGoing lanes lines s i session → IsRunOf devs lanes lines session.log
 going-IsRunOf devs lanes lines s i session e h =

@@ -1,5 +1,5 @@
 -- what a run does: the clause that the program's own call carries
-use Rattle.std.specs.Prelude.{ℕ, ◌≡◌, List, [], Bool, Option, Some, None}
+use Rattle.std.specs.Prelude.{ℕ, ◌≡◌, List, [], Bool, Option}
 use Rattle.std.specs.Io.KnownBytes.{Appends}
 use Rattle.st_rack.specs.Calls.{Devices}
 use Rattle.st_wants.specs.Lock.{start}
@@ -7,16 +7,11 @@ use Rattle.st_wants.specs.Rules.{lock_run}
 use Rattle.st_history.specs.declared.log.Event.{Event}
 use Rattle.st_history.specs.Failures.{failures}
 use Rattle.st_history.specs.History.{History, moves_of}
-use Rattle.st_lines.specs.Lines.{lines_of}
+use Rattle.st_lines.specs.Lines.{AreLinesOf}
+use Rattle.st_lines.specs.Printing.{Started}
 use Rattle.st_session.specs.LaneOrder.{LaneOrder}
 use Rattle.st_session.specs.Opening.{opening}
 use Rattle.st_session.specs.Out.{out}
-use Rattle.st_session.specs.Statuses.{Started}
-
--- the lines are those of all the bytes that the source had, where it tells them
-abbrev pub AreLinesOf : Option (List ℕ) → List (List ℕ) → Type 0
-AreLinesOf None lines = Unit {0}
-AreLinesOf (Some input) lines = lines ≡ lines_of input
 
 -- The log is one history of the engine, begun with no pool on the rack's devices: the lock's rule holds in it, and
 -- each entry has the reply of the sequential engine at its place. Each line's call stands in it at most once, in its

@@ -1,24 +1,18 @@
 -- what is written for the lines and the log
-use Rattle.std.specs.Prelude.{ℕ, ◌+◌, ◌-◌, ◌==◌, List, [], ◌∷◌, ◌++◌, length, Bool, false, Option, Some, None, Result, Ok, Err, if◌then◌else◌}
+use Rattle.std.specs.Prelude.{ℕ, ◌+◌, ◌==◌, List, [], ◌∷◌, ◌++◌, length, Bool, false, Option, Some, None, Result, Ok, Err, if◌then◌else◌}
 use Rattle.st_units.specs.declared.cause.Cause.TheVariants as causes
 use Rattle.st_model.specs.declared.call.Call.{Call}
 use Rattle.st_model.specs.declared.entry.Entry.{Entry}
 use Rattle.st_history.specs.declared.log.Event.{Event}
 use Rattle.st_model.specs.Answer.{refused}
 use Rattle.st_calls.specs.declared.fault.LineFault.{LineFault}
-use Rattle.st_calls.specs.declared.fault.LineFault.TheVariants.{BadCall, BadName, OutOfMemory}
 use Rattle.st_calls.specs.Form.{form}
 use Rattle.st_calls.specs.Names.{call_word}
 use Rattle.st_model.specs.Step.{is_built}
 use Rattle.st_replies.specs.Shown.{reply_line, summary_line, not_built_line}
+use Rattle.st_check.specs.Checked.{fault_reply, still}
 use Rattle.st_trace.specs.Traced.{trace_line}
 use Rattle.st_session.specs.Entries.{entries_of, entry_of}
-
--- the reply to a line that is no call to run
-abbrev pub fault_line : ℕ → LineFault → List ℕ
-fault_line n (BadCall member) = reply_line n (refused (causes.BadCall member))
-fault_line n (BadName member) = reply_line n (refused (causes.BadName member))
-fault_line n OutOfMemory = reply_line n (refused causes.OutOfMemory)
 
 -- the reply to a call without an entry: that the engine doesn't run it, or want of memory before it arrived
 abbrev pub unentered_line : ℕ → Call → List ℕ
@@ -27,7 +21,7 @@ unentered_line n call = if is_built call then reply_line n (refused causes.OutOf
 -- the reply to a line without an entry
 abbrev pub formed_line : ℕ → Result (ℕ × Call) LineFault → List ℕ
 formed_line n (Ok read) = unentered_line n read.1
-formed_line n (Err fault) = fault_line n fault
+formed_line n (Err fault) = reply_line n (fault_reply fault)
 
 abbrev pub entered_line : ℕ → Entry → List ℕ
 entered_line n e = reply_line n e.reply
@@ -58,7 +52,7 @@ trace_of (event ∷ log) = trace_line event ++ trace_of log
 
 -- no call that writes or reads sectors is built yet
 abbrev pub summary : ℕ → ℕ → List ℕ
-summary lines ok = summary_line (record { lines = lines; ok = ok; refused = lines - ok; written = 0; read = 0 })
+summary lines ok = summary_line (still lines ok)
 
 -- a reply line for each line, then with the trace a line for each event, then the summary
 unfoldable pub out : ℕ → Bool → List (List ℕ) → List Event → List ℕ

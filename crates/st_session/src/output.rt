@@ -1,69 +1,27 @@
-ghost use Rattle.std.specs.Prelude.{ℕ, ◌≡◌, ◌+◌, ◌-◌, ◌≤◌, ◌^◌, ◌<◌, IfOk, OnOk, OnErr, length, [], if◌then◌else◌};
+ghost use Rattle.std.specs.Prelude.{◌≡◌, ◌≤◌, Err, IfOk, OnOk, OnErr, length, [], if◌then◌else◌};
 ghost use Rattle.std.specs.Io.KnownBytes.{Appends};
 ghost use Rattle.st_units.specs.Causes.{Rose};
-ghost use Rattle.st_session.specs.Out.{fault_line, trace_of, summary};
-ghost use Rattle.st_session.specs.inner.Printing.{Prints, Stops, Replies, whole, IsShown, AreShown, shown_line, shown_ok, shown_from, shown_oks};
-ghost use Rattle.st_session.specs.Statuses.{Started};
+ghost use Rattle.st_lines.specs.Printing.{Prints, Started, Stops};
+ghost use Rattle.st_session.specs.Out.{trace_of};
+ghost use Rattle.st_session.specs.inner.Printing.{Replies, whole, IsShown, AreShown, shown_line, shown_ok, shown_from, shown_oks};
 ghost use Rattle.st_session.specs.inner.Running.{IsRelease};
 
 use crate::session::Answer;
-use st_calls::{LineFault, call_word};
+use st_calls::call_word;
+use st_check::{count_ok, fault_reply, print_summary};
 use st_history::{Event, Log};
-use st_lines::{Failed, Outlet, Sink};
+use st_lines::{Outlet, Sink, WriteStop};
 use st_model::Reply;
-use st_replies::{Summary, not_built_line, reply_line, summary_line};
+use st_replies::{not_built_line, reply_line};
 use st_trace::trace_line;
 use st_units::{Bytes, Cause, NoMemory};
 use std::alloc::Global;
-
-/// Why the output wasn't written.
-#[derive(Clone, Copy, Debug, PartialEq, Eq)]
-pub(crate) enum Stop {
-    Fault,
-    OutOfMemory,
-}
-
-impl From<NoMemory> for Stop {
-    ghost use Rattle.std.specs.Prelude.{◌≡◌};
-    ghost use Rattle.st_session.specs.declared.output.Stop.TheVariants.{OutOfMemory};
-
-    ghost from_gives = { λ _ e. e ≡ OutOfMemory };
-
-    fn from(_refused: NoMemory) -> Stop {
-        Stop::OutOfMemory
-    }
-}
-
-impl From<Failed> for Stop {
-    ghost use Rattle.std.specs.Prelude.{◌≡◌};
-    ghost use Rattle.st_session.specs.declared.output.Stop.TheVariants.{Fault};
-
-    ghost from_gives = { λ _ e. e ≡ Fault };
-
-    fn from(_failed: Failed) -> Stop {
-        Stop::Fault
-    }
-}
 
 /// What a line is answered, and whether its code is 0.
 #[derive(Drop)]
 struct LineText {
     text: Bytes,
     ok: bool,
-}
-
-fn fault_line(alloc: Global, number: u64, fault: LineFault) -> Result<Bytes, NoMemory>
-    ensures { IfOk result (λ text. text ≡ fault_line number fault) }
-{
-    match fault {
-        LineFault::BadCall(member) => {
-            reply_line(alloc, number, &Reply::refused(Cause::BadCall(member)))
-        }
-        LineFault::BadName(member) => {
-            reply_line(alloc, number, &Reply::refused(Cause::BadName(member)))
-        }
-        LineFault::OutOfMemory => reply_line(alloc, number, &Reply::refused(Cause::OutOfMemory)),
-    }
 }
 
 /// The reply in the release at that place of the log.
@@ -92,7 +50,7 @@ fn line_text(alloc: Global, log: &Log, number: u64, answer: &Answer) -> Result<L
             })
         }
         Answer::Fault(fault) => {
-            let text = fault_line(alloc, number, *fault)?;
+            let text = reply_line(alloc, number, &fault_reply(*fault))?;
             Ok(LineText { text, ok: false })
         }
         Answer::NotBuilt(call) => {
@@ -106,22 +64,6 @@ fn line_text(alloc: Global, log: &Log, number: u64, answer: &Answer) -> Result<L
     }
 }
 
-fn print<K: Sink>(sink: &mut K, outlet: &mut Outlet, text: &[u8]) -> Result<(), Failed>
-    ensures prints { OnOk result (Prints (K.held sink.old) outlet.old (K.held sink.new) outlet.new text.now) }
-    ensures stops { OnErr result (Stops (K.held sink.old) outlet.old (K.held sink.new) text.now) }
-    ensures fault { OnErr result (Rose (K.faults sink.old) (K.faults sink.new)) }
-    ensures later { K.faults sink.old ≤ K.faults sink.new }
-{
-    outlet.take(sink, text)
-}
-
-fn next_count(count: u64, counts: bool) -> u64
-    requires { count < 2 ^ 64 - 1 }
-    ensures { result ≡ count + (if counts then 1 else 0) }
-{
-    if counts { count + 1 } else { count }
-}
-
 /// Prints the reply lines, and counts those with code 0.
 fn print_replies<K: Sink>(
     alloc: Global,
@@ -129,21 +71,21 @@ fn print_replies<K: Sink>(
     outlet: &mut Outlet,
     log: &Log,
     answers: &[Answer],
-) -> Result<u64, Stop>
+) -> Result<u64, WriteStop>
     requires { AreShown 1 log.now.items answers.now }
     ensures prints { OnOk result (Prints (K.held sink.old) outlet.old (K.held sink.new) outlet.new (shown_from 1 log.now.items answers.now)) }
     ensures counted { IfOk result (λ oks. oks ≡ shown_oks 1 log.now.items answers.now) }
     ensures few { IfOk result (λ oks. oks ≤ length answers.now) }
     ensures stops { OnErr result (Stops (K.held sink.old) outlet.old (K.held sink.new) (shown_from 1 log.now.items answers.now)) }
-    ensures fault { result ≡ Err Stop.Fault → Rose (K.faults sink.old) (K.faults sink.new) }
+    ensures fault { result ≡ Err WriteStop.Fault → Rose (K.faults sink.old) (K.faults sink.new) }
     ensures later { K.faults sink.old ≤ K.faults sink.new }
 {
     let mut number = 1u64;
     let mut oks = 0u64;
     for answer in answers {
         let line = line_text(alloc, log, number, answer)?;
-        print(sink, outlet, line.text.items())?;
-        oks = next_count(oks, line.ok);
+        outlet.print(sink, line.text.items())?;
+        oks = count_ok(oks, line.ok);
         number += 1;
     }
     Ok(oks)
@@ -155,41 +97,16 @@ fn print_trace<K: Sink>(
     sink: &mut K,
     outlet: &mut Outlet,
     events: &[Event],
-) -> Result<(), Stop>
+) -> Result<(), WriteStop>
     ensures prints { OnOk result (Prints (K.held sink.old) outlet.old (K.held sink.new) outlet.new (trace_of events.now)) }
     ensures stops { OnErr result (Stops (K.held sink.old) outlet.old (K.held sink.new) (trace_of events.now)) }
-    ensures fault { result ≡ Err Stop.Fault → Rose (K.faults sink.old) (K.faults sink.new) }
+    ensures fault { result ≡ Err WriteStop.Fault → Rose (K.faults sink.old) (K.faults sink.new) }
     ensures later { K.faults sink.old ≤ K.faults sink.new }
 {
     for event in events {
         let text = trace_line(alloc, event)?;
-        print(sink, outlet, text.items())?;
+        outlet.print(sink, text.items())?;
     }
-    Ok(())
-}
-
-fn print_summary<K: Sink>(
-    alloc: Global,
-    sink: &mut K,
-    outlet: &mut Outlet,
-    lines: u64,
-    oks: u64,
-) -> Result<(), Stop>
-    requires { oks ≤ lines }
-    ensures prints { OnOk result (Prints (K.held sink.old) outlet.old (K.held sink.new) outlet.new (summary lines oks)) }
-    ensures stops { OnErr result (Stops (K.held sink.old) outlet.old (K.held sink.new) (summary lines oks)) }
-    ensures fault { result ≡ Err Stop.Fault → Rose (K.faults sink.old) (K.faults sink.new) }
-    ensures later { K.faults sink.old ≤ K.faults sink.new }
-{
-    let sums = Summary {
-        lines,
-        ok: oks,
-        refused: lines - oks,
-        written: 0,
-        read: 0,
-    };
-    let text = summary_line(alloc, &sums)?;
-    print(sink, outlet, text.items())?;
     Ok(())
 }
 
@@ -207,11 +124,11 @@ pub(crate) fn write_out<K: Sink>(
     log: &Log,
     answers: &[Answer],
     trace: bool,
-) -> Result<(), Stop>
+) -> Result<(), WriteStop>
     requires { AreShown 1 log.now.items answers.now }
     ensures written { OnOk result (Appends (K.held sink.old) (K.held sink.new) (whole trace log.now.items answers.now)) }
     ensures prefix { OnErr result (Started (K.held sink.old) (K.held sink.new) (whole trace log.now.items answers.now)) }
-    ensures fault { result ≡ Err Stop.Fault → Rose (K.faults sink.old) (K.faults sink.new) }
+    ensures fault { result ≡ Err WriteStop.Fault → Rose (K.faults sink.old) (K.faults sink.new) }
     ensures later { K.faults sink.old ≤ K.faults sink.new }
 {
     let mut outlet = Outlet::make(alloc)?;

@@ -1,114 +1,50 @@
-ghost use Rattle.std.specs.Prelude.{ℕ, List, ◌≡◌, ◌⊎◌, ◌≤◌, [], false, Some, None, map, string_bytes, IfSome};
-ghost use Rattle.std.specs.Io.KnownBytes.{Appends, IsAtEnd};
+ghost use Rattle.std.specs.Prelude.{◌≡◌, ◌⊎◌, ◌≤◌, [], false, true, Some, None, Err, map, string_bytes, IfErr, IfOk, IfSome, OnOk};
+ghost use Rattle.std.specs.Io.KnownBytes.{IsAtEnd};
 ghost use Rattle.st_units.specs.Causes.{Rose};
+ghost use Rattle.st_limits.specs.declared.TheConstants.{MAX_LANES};
 ghost use Rattle.st_history.specs.Failures.{failures};
 ghost use Rattle.st_history.specs.History.{History};
-ghost use Rattle.st_words.specs.Meaning.{words_of};
-ghost use Rattle.st_session.specs.Headline.{AreLinesOf, IsRunOf, IsDone, IsCutOff};
-ghost use Rattle.st_limits.specs.declared.TheConstants.{MAX_LANES};
 ghost use Rattle.st_lines.specs.Limits.{first_broken};
 ghost use Rattle.st_rack.specs.Calls.{IsFit};
+ghost use Rattle.st_words.specs.Meaning.{words_of};
+ghost use Rattle.st_gen.specs.Script.{script};
+ghost use Rattle.st_status.specs.Statuses.{IsWritten, IsEarly, IsOfInput, IsOfDevices, Wrote};
+ghost use Rattle.st_check.specs.Checked.{IsCheck};
+ghost use Rattle.st_session.specs.Headline.{IsDone, IsCutOff};
+ghost use Rattle.st_session.specs.Modes.{are_served, asks_lanes, asks_mode, asks_number, asks_trace, ask_input};
 ghost use Rattle.st_session.specs.Opening.{opening};
-ghost use Rattle.st_session.specs.Out.{out};
-ghost use Rattle.st_session.specs.inner.Printing.{AreShown, whole};
-ghost use Rattle.st_session.specs.Statuses.{Started, IsAfterInput, IsWritten, IsEarly, IsOfDevices, status_of, are_served, asks_lanes, asks_trace};
 
-use crate::lines::run_lines;
-use crate::opening::opening;
-use crate::output::{Stop, write_out};
-use crate::run::{Outcome, Status};
-use crate::session::{Answer, Session};
-use st_history::Log;
-use st_lines::{Limit, Lines, ReadStop, Sink, Source, read_lines};
+use crate::input::run_script;
+use crate::outcome::Outcome;
+use st_check::{check_lines, gen_lines};
+use st_lines::{Limit, Sink, Source};
 use st_model::Gate;
 use st_rack::Rack;
-use st_units::NoMemory;
+use st_status::Status;
 use st_words::{RunMode, Words, WordsFault, read_words};
 use std::alloc::Global;
 use std::sync::Wait;
 use std::thread::Threads;
 
-fn status_of(stop: ReadStop) -> Status
-    ensures { result ≡ status_of stop }
+/// The words, where they are served: `--recover` isn't yet.
+fn served_words(alloc: Global, words: &[String]) -> Result<Words, Status>
+    ensures words { IfOk result (λ read. words_of (map string_bytes words.now) ≡ Some read) }
+    ensures served { OnOk result (are_served (words_of (map string_bytes words.now)) ≡ true) }
+    ensures usage { result ≡ Err Status.Usage → are_served (words_of (map string_bytes words.now)) ≡ false }
+    ensures other { IfErr result (λ status. (status ≡ Status.Usage) ⊎ (status ≡ Status.OutOfMemory)) }
+    ensures lanes { IfOk result (λ read. (1 ≤ read.lanes) × (read.lanes ≤ MAX_LANES)) }
 {
-    match stop {
-        ReadStop::Fault => Status::ReadFault,
-        ReadStop::Limit(limit) => Status::InputLimit(limit),
-        ReadStop::OutOfMemory => Status::OutOfMemory,
+    match read_words(alloc, words) {
+        Ok(words) if words.recover => Err(Status::Usage),
+        Ok(words) => Ok(words),
+        Err(WordsFault::Usage) => Err(Status::Usage),
+        Err(WordsFault::OutOfMemory) => Err(Status::OutOfMemory),
     }
 }
 
-/// Whether the words are served: `check`, `gen` and `--recover` aren't yet.
-fn is_served(words: Words) -> bool
-    ensures { result ≡ are_served (Some words) }
-{
-    match words.mode {
-        RunMode::Run => !words.recover,
-        RunMode::Check | RunMode::Gen => false,
-    }
-}
-
-/// Writes the output, and tells how that ended.
-fn written<K: Sink>(
-    alloc: Global,
-    sink: &mut K,
-    log: &Log,
-    answers: &[Answer],
-    trace: bool,
-) -> Status
-    requires { AreShown 1 log.now.items answers.now }
-    ensures status { IsAfterInput result }
-    ensures done { result ≡ Status.Done → Appends (K.held sink.old) (K.held sink.new) (whole trace log.now.items answers.now) }
-    ensures cut { (result ≡ Status.Done → ⊥) → Started (K.held sink.old) (K.held sink.new) (whole trace log.now.items answers.now) }
-    ensures fault { result ≡ Status.WriteFault → Rose (K.faults sink.old) (K.faults sink.new) }
-    ensures later { K.faults sink.old ≤ K.faults sink.new }
-{
-    match write_out(alloc, sink, log, answers, trace) {
-        Ok(()) => Status::Done,
-        Err(Stop::Fault) => Status::WriteFault,
-        Err(Stop::OutOfMemory) => Status::OutOfMemory,
-    }
-}
-
-/// Runs the lines on this rack, and writes the output.
-fn run_input<K: Sink, R: Rack, G: Gate>(
-    alloc: Global,
-    lines: &Lines,
-    words: Words,
-    sink: &mut K,
-    rack: R,
-    gate: &G,
-) -> Outcome<R>
-    requires { IsFit (R.devs rack) }
-    ensures rack { result.rack ≡ rack }
-    ensures status { IsAfterInput result.status }
-    ensures run { IsRunOf (R.devs rack) words.lanes lines.now result.log.items }
-    ensures done { result.status ≡ Status.Done → Appends (K.held sink.old) (K.held sink.new) (out words.lanes words.trace lines.now result.log.items) }
-    ensures cut { (result.status ≡ Status.Done → ⊥) → Started (K.held sink.old) (K.held sink.new) (out words.lanes words.trace lines.now result.log.items) }
-    ensures fault { result.status ≡ Status.WriteFault → Rose (K.faults sink.old) (K.faults sink.new) }
-    ensures later { K.faults sink.old ≤ K.faults sink.new }
-{
-    let Ok(state) = opening(alloc, &rack) else {
-        return Outcome::early(alloc, Status::OutOfMemory, rack);
-    };
-    let Ok(mut session) = Session::begin(alloc, state) else {
-        return Outcome::early(alloc, Status::OutOfMemory, rack);
-    };
-    let ran = run_lines(alloc, gate, words.lanes, &mut session, lines);
-    let log = session.close();
-    let Ok(answers) = ran else {
-        return Outcome {
-            status: Status::OutOfMemory,
-            rack,
-            log,
-        };
-    };
-    let status = written(alloc, sink, &log, answers.items(), words.trace);
-    Outcome { status, rack, log }
-}
-
-/// Runs a script: reads the words and the whole input, runs each line that is a call, and writes
-/// the reply lines, with `--trace` the trace, and the summary.
+/// Does what the words ask for. In mode `run` that is a run of a script: it reads the whole input, runs each line that
+/// is a call, and writes the reply lines, with `--trace` the trace, and the summary. In mode `check` it looks at the
+/// lines' form alone, and in mode `gen` it writes a script.
 ///
 /// Nothing is written before all lines have run. The rack comes back as it was handed in, and the
 /// log of the lock with it. Want of memory may end a run at any moment; each other status has its
@@ -131,12 +67,21 @@ pub fn run_words<
     requires { IsFit (R.devs rack) }
     ensures rack { result.rack ≡ rack }
 
-    // What was done, and what was written.
-    ensures done { result.status ≡ Status.Done → IsDone (R.devs rack) (asks_lanes (words_of (map string_bytes words.now))) (asks_trace (words_of (map string_bytes words.now))) (S.left source.old) (K.held sink.old) (K.held sink.new) result.log.items }
-    ensures cut_off { result.status ≡ Status.WriteFault → IsCutOff (R.devs rack) (asks_lanes (words_of (map string_bytes words.now))) (asks_trace (words_of (map string_bytes words.now))) (S.left source.old) (K.held sink.old) (K.held sink.new) result.log.items }
-    ensures out_of_memory { result.status ≡ Status.OutOfMemory → IsCutOff (R.devs rack) (asks_lanes (words_of (map string_bytes words.now))) (asks_trace (words_of (map string_bytes words.now))) (S.left source.old) (K.held sink.old) (K.held sink.new) result.log.items }
+    // In mode `run`: what was done, and what was written.
+    ensures done { asks_mode (words_of (map string_bytes words.now)) ≡ Some RunMode.Run → result.status ≡ Status.Done → IsDone (R.devs rack) (asks_lanes (words_of (map string_bytes words.now))) (asks_trace (words_of (map string_bytes words.now))) (S.left source.old) (K.held sink.old) (K.held sink.new) result.log.items }
+    ensures cut_off { asks_mode (words_of (map string_bytes words.now)) ≡ Some RunMode.Run → result.status ≡ Status.WriteFault → IsCutOff (R.devs rack) (asks_lanes (words_of (map string_bytes words.now))) (asks_trace (words_of (map string_bytes words.now))) (S.left source.old) (K.held sink.old) (K.held sink.new) result.log.items }
+    ensures out_of_memory { asks_mode (words_of (map string_bytes words.now)) ≡ Some RunMode.Run → result.status ≡ Status.OutOfMemory → IsCutOff (R.devs rack) (asks_lanes (words_of (map string_bytes words.now))) (asks_trace (words_of (map string_bytes words.now))) (S.left source.old) (K.held sink.old) (K.held sink.new) result.log.items }
+
+    // In the other modes no line runs.
+    ensures checked { asks_mode (words_of (map string_bytes words.now)) ≡ Some RunMode.Check → IsCheck (asks_lanes (words_of (map string_bytes words.now))) result.status (S.left source.old) (K.held sink.old) (K.held sink.new) }
+    ensures generated { asks_mode (words_of (map string_bytes words.now)) ≡ Some RunMode.Gen → Wrote result.status (K.held sink.old) (K.held sink.new) (script (asks_lanes (words_of (map string_bytes words.now))) (asks_number (words_of (map string_bytes words.now)))) }
+    ensures nothing_ran { (asks_mode (words_of (map string_bytes words.now)) ≡ Some RunMode.Run → ⊥) → result.log.items ≡ [] }
+
+    // In every mode.
     ensures early { IsEarly result.status → (sink.new ≡ sink.old) × (result.log.items ≡ []) }
-    ensures end { IsWritten result.status → IsAtEnd (S.left source.new) }
+    ensures unserved { are_served (words_of (map string_bytes words.now)) ≡ false → (source.new ≡ source.old) × (sink.new ≡ sink.old) }
+    ensures end { ask_input (words_of (map string_bytes words.now)) ≡ true → IsWritten result.status → IsAtEnd (S.left source.new) }
+    ensures no_input { ask_input (words_of (map string_bytes words.now)) ≡ false → source.new ≡ source.old }
 
     // What holds of the log with every status.
     ensures history { History (opening (R.devs rack)) result.log.items }
@@ -148,21 +93,24 @@ pub fn run_words<
     ensures read_fault { result.status ≡ Status.ReadFault → Rose (S.faults source.old) (S.faults source.new) }
     ensures write_fault { result.status ≡ Status.WriteFault → Rose (K.faults sink.old) (K.faults sink.new) }
     ensures limit { (limit : Limit) → result.status ≡ Status.InputLimit limit → IfSome (S.left source.old) (λ input. first_broken input ≡ Some limit) }
-    ensures within_limit { IsWritten result.status → IfSome (S.left source.old) (λ input. first_broken input ≡ None) }
+    ensures within_limit { ask_input (words_of (map string_bytes words.now)) ≡ true → IsWritten result.status → IfSome (S.left source.old) (λ input. first_broken input ≡ None) }
+    ensures of_input { IsOfInput result.status → ask_input (words_of (map string_bytes words.now)) ≡ true }
     ensures no_device { IsOfDevices result.status → ⊥ }
 {
     let _ = rt;
-    let words = match read_words(alloc, words) {
-        Ok(words) if is_served(words) => words,
-        Ok(_) => return Outcome::early(alloc, Status::Usage, rack),
-        Err(WordsFault::Usage) => return Outcome::early(alloc, Status::Usage, rack),
-        Err(WordsFault::OutOfMemory) => {
-            return Outcome::early(alloc, Status::OutOfMemory, rack);
+    let words = match served_words(alloc, words) {
+        Ok(words) => words,
+        Err(status) => return Outcome::early(alloc, status, rack),
+    };
+    match words.mode {
+        RunMode::Run => run_script(alloc, words, source, sink, rack, gate),
+        RunMode::Check => {
+            let status = check_lines(alloc, source, sink, words.lanes);
+            Outcome::early(alloc, status, rack)
         }
-    };
-    let lines = match read_lines(alloc, source) {
-        Ok(lines) => lines,
-        Err(stop) => return Outcome::early(alloc, status_of(stop), rack),
-    };
-    run_input(alloc, &lines, words, sink, rack, gate)
+        RunMode::Gen => {
+            let status = gen_lines(alloc, sink, words.lanes, words.number);
+            Outcome::early(alloc, status, rack)
+        }
+    }
 }

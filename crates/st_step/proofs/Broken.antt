@@ -5,18 +5,13 @@ use Rattle.st_model.specs.declared.call.Call.TheVariants.{CreatePool}
 use Rattle.st_model.specs.declared.entry.Env.TheVariants.{FaultWrite}
 use Rattle.st_model.specs.declared.reply.Reply.{Reply}
 use Rattle.st_model.specs.declared.state.EngineState.{EngineState}
-use Rattle.st_model.specs.Answer.{accepted, refused, refused_by}
+use Rattle.st_model.specs.Answer.{accepted, refused}
 use Rattle.st_model.specs.declared.reply.Given.TheVariants.{Created}
 use Rattle.st_model.specs.declared.state.PoolState.{PoolState}
-use Rattle.st_units.specs.declared.cause.Cause.{Cause}
 use Rattle.st_model.specs.Look.{Text, distinct}
 use Rattle.st_model.specs.Step.{is_changed, step}
 use Rattle.st_model.specs.steps.CreatePool.{answer_held, broken_pool, create_answer, create_answers, create_plain, is_made, with_pool}
-use Rattle.st_model.proofs.Answers0.{IsNoChange, changed-unanswered, no_change_where}
-
-no_change_by : (o : Option Cause) → IsNoChange (refused_by o)
-no_change_by None = tt
-no_change_by (Some cause) = no_change_where true cause
+use Rattle.st_model.proofs.Answers0.{IsNoChange, changed-unanswered, no_change_by, no_change_where}
 
 no_change_held : (name : Text) (paths : List Text) (o : Option PoolState) → IsNoChange (answer_held name paths o)
 no_change_held name paths None = tt

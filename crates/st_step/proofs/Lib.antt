@@ -1,3 +1,5 @@
+mod AddingSo
+mod AtPlace
 mod Broken
 mod Merges
 mod Refusals

@@ -15,7 +15,7 @@ use Rattle.st_model.specs.declared.state.PoolMode.TheVariants.{Up, Down, Stopped
 use Rattle.st_model.specs.declared.state.PoolState.{PoolState}
 use Rattle.st_model.specs.Answer.{first_answer, refused, unless_answered}
 use Rattle.st_model.specs.Checks.{fs_at, in_fs, on_fs}
-use Rattle.st_model.specs.Flight.{in_flight, state_before}
+use Rattle.st_model.specs.Flight.{in_flight, new_to, state_before}
 use Rattle.st_model.specs.Found.{found_after, found_after_of, found_before, taken_over, unsettled_in, with_own_serial}
 use Rattle.st_model.specs.Lifted.{Doing, answer_in, answer_of, is_known, on_pool, one_changed, runs_as}
 use Rattle.st_model.specs.Local.{Outcome, where_so}
@@ -25,10 +25,20 @@ use Rattle.st_model.specs.Plain.{plain}
 use Rattle.st_model.specs.Sound.{are_few}
 use Rattle.st_model.specs.Step.{fault_on, found, is_ok, on_flight, reaches, touches, usual, wrote}
 use Rattle.st_model.specs.Valid.{IsValid}
+use Rattle.st_model.specs.steps.AddCacheDevs.{more_cache}
+use Rattle.st_model.specs.steps.AddDataDevs.{data_devs}
+use Rattle.st_model.specs.steps.AddDevices.{Adding, add_answers, add_devices, add_found}
+use Rattle.st_model.specs.declared.call.Payload.{Payload}
+use Rattle.st_model.specs.InPlace.{sectors_in, with_bytes}
+use Rattle.st_model.specs.steps.Check.{check_answers, check_pool}
+use Rattle.st_model.specs.steps.FsRead.{fs_read, read_answers, read_fs}
+use Rattle.st_model.specs.steps.FsWrite.{fs_write, write_answers, write_fs}
 use Rattle.st_model.specs.steps.CreateFilesystems.{create_filesystems, fs_answers, to_create}
 use Rattle.st_model.specs.steps.CreatePool.{create_answer, create_plain}
+use Rattle.st_model.specs.steps.DestroyFilesystems.{destroy_filesystems, destroy_fs_answers, to_destroy}
 use Rattle.st_model.specs.steps.DestroyPool.{destroy_answers, destroy_found, destroy_pool}
 use Rattle.st_model.specs.steps.EngineStateReport.{report_plain}
+use Rattle.st_model.specs.steps.InitCache.{new_cache}
 use Rattle.st_model.specs.steps.PoolReport.{pool_report}
 use Rattle.st_model.specs.steps.PoolReports.{pool_reports}
 use Rattle.st_model.specs.steps.PowerCycle.{power_cycle}
@@ -38,6 +48,7 @@ use Rattle.st_model.specs.steps.SetFsLimit.{limit_answers, set_fs_limit}
 use Rattle.st_model.specs.steps.SetMerge.{mark_fs, merge_answers, set_merge}
 use Rattle.st_model.specs.steps.SetOverprovisioning.{overprovisioning_answers, set_overprovisioning}
 use Rattle.st_model.specs.steps.SetSizeLimit.{limit_fs, set_size_limit, size_limit_answers}
+use Rattle.st_model.specs.steps.SnapshotFilesystem.{named_answer, snapshot_answers, snapshot_filesystem, take_snapshot}
 use Rattle.st_model.specs.steps.StartPool.{pool_meant, start_found, start_in, start_pool}
 use Rattle.st_model.specs.steps.StopPool.{stop_found, stop_pool}
 use Rattle.st_model.proofs.Among.{IsPlaced, all_placed}
@@ -108,9 +119,33 @@ merge-keeps : (name : Text) (value : Bool) (p : PoolState) → Keeps p (set_merg
 unfolding set_merge
 merge-keeps name value = fs-keeps (mark_fs value) (λ fs p. unless-keeps (first_answer (merge_answers value fs p)) p _ refl) name
 
+destroy_fs-keeps : (names : List Text) (p : PoolState) → Keeps p (destroy_filesystems names p)
+unfolding destroy_filesystems
+destroy_fs-keeps names p = unless-keeps (first_answer (destroy_fs_answers (to_destroy names p) p)) p _ refl
+
+snapshot-keeps : (origin name : Text) (p : PoolState) → Keeps p (snapshot_filesystem origin name p)
+unfolding snapshot_filesystem
+snapshot-keeps origin name p = here (named_answer (fs_at origin p.filesystems) (fs_at name p.filesystems))
+  where
+    here : (a : Option Reply) → Keeps p (unless_answered a p (on_fs origin (take_snapshot name) p))
+    here None = fs-keeps (take_snapshot name) (λ fs p. unless-keeps (first_answer (snapshot_answers name fs p)) p _ refl) origin p
+    here (Some r) = λ h. refl
+
 report-keeps : (p : PoolState) → Keeps p (pool_report p)
 unfolding pool_report
 report-keeps p h = refl
+
+write-keeps : (name : Text) (sector : ℕ) (payload : Payload) (p : PoolState) → Keeps p (fs_write name sector payload p)
+unfolding fs_write
+write-keeps name sector payload = fs-keeps (write_fs sector payload) (λ fs p. unless-keeps (first_answer (write_answers fs sector (sectors_in payload) p)) p _ refl) name
+
+read-keeps : (name : Text) (sector sectors : ℕ) (p : PoolState) → Keeps p (fs_read name sector sectors p)
+unfolding fs_read
+read-keeps name sector sectors = fs-keeps (read_fs sector sectors) (λ fs p. unless-keeps (first_answer (read_answers fs sector sectors)) p _ refl) name
+
+check-keeps : (p : PoolState) → Keeps p (check_pool p)
+unfolding check_pool
+check-keeps p = unless-keeps (first_answer (check_answers p)) p _ refl
 
 -- each other call
 create-keeps : (s : EngineState) (name : Text) (paths : List Text) → Keeps s (create_plain s name paths)
@@ -147,6 +182,14 @@ rename-keeps s name new = here (pool_at name s.pools)
     here : (o : Option PoolState) → Keeps s (rename_found s name new o)
     here None h = refl
     here (Some p) h = unless-keeps (first_answer (rename_answers s name new p)) s _ refl h
+
+add-keeps : (a : Adding) (s : EngineState) (name : Text) (devices : List Text) → Keeps s (add_devices a name devices s)
+unfolding add_devices
+add-keeps a s name devices = here (pool_at name s.pools)
+  where
+    here : (o : Option PoolState) → Keeps s (add_found a s name devices o)
+    here None h = refl
+    here (Some p) h = unless-keeps (first_answer (add_answers a s devices (new_to (a.there p.devices) devices) p)) s _ refl h
 
 abbrev KeepsIfAny : EngineState → Outcome → Type 0
 KeepsIfAny s None = Unit {0}
@@ -196,14 +239,14 @@ plain-keeps s (PoolReport pool) v = pool-keeps s pool pool_report report-keeps v
 plain-keeps s (PoolReports pools) v = reports-keep s pools (are_few pools)
 plain-keeps s EngineStateReport v = engine-keeps s
 plain-keeps s PowerCycle v = cycle-keeps s
-plain-keeps s (AddDataDevs pool devices) v = tt
-plain-keeps s (InitCache pool devices) v = tt
-plain-keeps s (AddCacheDevs pool devices) v = tt
-plain-keeps s (DestroyFilesystems pool names) v = tt
-plain-keeps s (SnapshotFilesystem pool origin name) v = tt
-plain-keeps s (FsWrite pool name sector payload) v = tt
-plain-keeps s (FsRead pool name sector sectors) v = tt
-plain-keeps s (Check pool) v = tt
+plain-keeps s (AddDataDevs pool devices) v = add-keeps data_devs s pool devices
+plain-keeps s (InitCache pool devices) v = add-keeps new_cache s pool devices
+plain-keeps s (AddCacheDevs pool devices) v = add-keeps more_cache s pool devices
+plain-keeps s (DestroyFilesystems pool names) v = pool-keeps s pool (destroy_filesystems names) (destroy_fs-keeps names) v
+plain-keeps s (SnapshotFilesystem pool origin name) v = pool-keeps s pool (snapshot_filesystem origin name) (snapshot-keeps origin name) v
+plain-keeps s (FsWrite pool name sector payload) v = pool-keeps s pool (fs_write name sector payload) (write-keeps name sector payload) v
+plain-keeps s (FsRead pool name sector sectors) v = pool-keeps s pool (fs_read name sector sectors) (read-keeps name sector sectors) v
+plain-keeps s (Check pool) v = pool-keeps s pool check_pool check-keeps v
 
 -- what a call answers, but for a failed write and a pool that vanished
 abbrev KeepsBut : EngineState → Reply × EngineState → Type 0
@@ -256,6 +299,7 @@ after-keeps s p before (Some answered) = so-keeps s _ (taken_over s p (with_own_
 
 before-keeps : (s : EngineState) (p : PoolState) (call : Call) (bytes : List ℕ) → KeepsButIfAny s (found_before s p call bytes)
 before-keeps s p (CreatePool name devices) bytes = so-keeps s _ _ (taken s p None)
+before-keeps s p (FsWrite pool name sector payload) bytes = so-keeps s _ _ (taken s p (Some (with_bytes p (FsWrite pool name sector payload) bytes)))
 before-keeps s p _ bytes = so-keeps s _ _ (taken s p (Some p))
 
 found-keeps : (s : EngineState) (f : PoolState → Call → Outcome) → ((p : PoolState) (call : Call) → KeepsButIfAny s (f p call)) → (o : Option PoolState) → KeepsButIfAny s (found f o)

@@ -11,7 +11,8 @@ use st_model::{Call, EngineState, Given, NumberMap, PoolMode, PoolState, Reply, 
 use st_units::{Cause, DevList, DevPath, DevRows, ItemList, Name, NoMemory, PoolSerial};
 use std::alloc::Global;
 
-fn in_use(paths: &[DevPath], pools: &[PoolState]) -> Result<Option<Reply>, NoMemory>
+/// The refusal that names the first device in use, and its pool.
+pub(crate) fn in_use(paths: &[DevPath], pools: &[PoolState]) -> Result<Option<Reply>, NoMemory>
     ensures { IfOk result (λ reply. reply ≡ used_device paths.now pools.now) }
 {
     let Some(path) = look::first_used(paths, pools) else {

@@ -4,6 +4,7 @@ ghost use Rattle.st_model.specs.Step.{step};
 ghost use Rattle.st_model.specs.Valid.{IsValid};
 ghost use Rattle.st_step.specs.Running.{runs};
 
+use crate::add_devices::{Adding, add_devices};
 use crate::create_pool::{create_broken, create_pool};
 use crate::reports::engine_state_report;
 use st_model::{Call, EngineState, Env, Reply};
@@ -29,6 +30,15 @@ pub fn step(
         }
         (Call::CreatePool { name, devices }, Env::FaultWrite) => {
             create_broken(state, alloc, name, devices)
+        }
+        (Call::AddDataDevs { pool, devices }, Env::Plain) => {
+            add_devices(state, alloc, Adding::ToData, pool, devices)
+        }
+        (Call::InitCache { pool, devices }, Env::Plain) => {
+            add_devices(state, alloc, Adding::ToNewCache, pool, devices)
+        }
+        (Call::AddCacheDevs { pool, devices }, Env::Plain) => {
+            add_devices(state, alloc, Adding::ToCache, pool, devices)
         }
         (Call::EngineStateReport, Env::Plain) => engine_state_report(state, alloc),
         _ => unreachable!(),

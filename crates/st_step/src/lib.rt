@@ -1,10 +1,13 @@
 //! The engine's step as a plain program, equal to its definition. It may copy; it is for small inputs and for tests.
 #![tactic(auto)]
 
+mod add_devices;
 mod create_pool;
 mod dispatch;
 mod laws;
+mod place;
 mod reports;
+mod tiers;
 
 pub use dispatch::step;
 pub use laws::{

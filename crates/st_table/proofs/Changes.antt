@@ -10,11 +10,12 @@ use Rattle.st_model.specs.Look.{Text, row_of, is_name_of}
 use Rattle.st_model.specs.OnTable.{is_held}
 use Rattle.st_model.specs.Parts.{is_used}
 use Rattle.st_table.specs.declared.device.Device.{Device}
-use Rattle.st_table.specs.Sorted.{IsRising, entered}
+use Rattle.st_order.specs.Sorted.{IsRising, entered}
 use Rattle.st_table.specs.Table.{TablePool, name_of, is_named, pool_named, knows, names_of, is_taken, is_running, runs, IsFree, without, with_pool}
 use Rattle.st_table.specs.inner.Sound.{row_in, path_in, IsMarked, user_among, table_pool, new_held, info_held}
-use Rattle.st_table.proofs.Order.{eq_same, find_none}
-use Rattle.st_table.proofs.Marks.{map-map, find-map, any-map, filter-map, entered-map, weaker, or_first, or_second, user_is}
+use Rattle.st_order.proofs.Order.{eq_same, find_none}
+use Rattle.st_order.proofs.Lists.{map-map, find-map, any-map, filter-map, entered-map, weaker, or_first, or_second, any_found, found_passes, any_less}
+use Rattle.st_table.proofs.Marks.{user_is}
 
 -- ---- the lists of the code
 
@@ -57,12 +58,6 @@ row_found ys xs k n i x e f h is = find-map row_in (λ (row : DevRow). bytes_eq 
 pub row_absent : (ys xs : List Device) (k n : Text) → ys ≡ xs → k ≡ n → list_any (λ (d : Device). bytes_eq (path_in d) k) ys ≡ false → row_of n (map row_in xs) ≡ None
 row_absent ys xs k n e f h = find-map row_in (λ (row : DevRow). bytes_eq row.path n) xs ∙ ap (option_map row_in) (find_none path_in (λ (d : Device). bytes_eq (path_in d) n) xs (rw (e, f) at h))
 
-found_passes : (q : Device → Bool) (P : Device → Type 0) (xs : List Device) (x : Device) → AllByRecursion P xs → find q xs ≡ Some x → (q x ≡ true) × P x
-found_passes q P [] x all h = absurd cc
-found_passes q P (y ∷ ys) x all h =
-    let cases : (b : Bool) → q y ≡ b → cond b (Some y) (find q ys) ≡ Some x → (q x ≡ true) × P x = elim [ true ↦ (λ e k. let same : y ≡ x = cc in subst (λ z. (q z ≡ true) × P z) same (e, all.0)) | false ↦ (λ e k. found_passes q P ys x all.1 k) ] in
-    cases (q y) refl h
-
 -- the device that is found tells its user
 pub user_told_by : (ys xs : List Device) (pools : List TablePool) (k n : Text) (i : ℕ) (x : Device) → ys ≡ xs → k ≡ n → AllByRecursion (IsMarked pools) xs → find (λ (d : Device). bytes_eq (path_in d) k) ys ≡ Some (get_or ys i x) → x ≡ get_or xs i x
     → option_map (λ (pool : TablePool). pool.known) (user_among x.user pools) ≡ find (is_used n) (names_of pools)
@@ -80,12 +75,6 @@ or_any (x ∷ xs) n = ap (λ b. (called n x || is_name_of n (new_held x.holding)
     shuffle false true true d = refl
     shuffle false true false d = refl
     shuffle false false c d = refl
-
-pub any_found : {A : Type 0} (q : A → Bool) (xs : List A) → is_some (find q xs) ≡ list_any q xs
-any_found q [] = refl
-any_found q (x ∷ xs) =
-    let cases : (b : Bool) → is_some (cond b (Some x) (find q xs)) ≡ (b || list_any q xs) = elim [ true ↦ refl | false ↦ any_found q xs ] in
-    cases (q x)
 
 pub taken_told : (xs : List Pool) (n : Text) → is_taken n (map table_pool xs) ≡ (is_some (pool_named n (map table_pool xs)) || list_any (λ (item : Pool). is_name_of n (new_held item.holding)) xs)
 taken_told xs n =
@@ -108,12 +97,6 @@ not_taken n [] h = refl
 not_taken n (p ∷ pools) h =
     let named : is_named n p ≡ false = or_first (is_named n p) (is_name_of n p.known.new) (or_first (is_held n p.known) (is_taken n pools) h) in
     rw named (not_taken n pools (or_second (is_held n p.known) (is_taken n pools) h))
-
-pub any_less : {A : Type 0} (p q : A → Bool) (xs : List A) → list_any p xs ≡ false → list_any p (filter q xs) ≡ false
-any_less p q [] h = refl
-any_less p q (x ∷ xs) h =
-    let cases : (b : Bool) → list_any p (cond b (x ∷ filter q xs) (filter q xs)) ≡ false = elim [ true ↦ (let e : p x ≡ false = or_first (p x) (list_any p xs) h in rw e (any_less p q xs (or_second (p x) (list_any p xs) h))) | false ↦ any_less p q xs (or_second (p x) (list_any p xs) h) ] in
-    cases (q x)
 
 -- a name that no pool holds is new to the other pools
 pub new_to_rest : (pools rest : List TablePool) (n old : Text) → rest ≡ without old pools → is_taken n pools ≡ false → knows n rest ≡ false

@@ -1,3 +1,3 @@
 mod Changes
 mod Marks
-mod Order
+mod Standing

@@ -9,10 +9,11 @@ use Rattle.st_units.specs.declared.rows.DevRow.{DevRow}
 use Rattle.st_model.specs.Look.{Text, has_path, row_of}
 use Rattle.st_model.specs.Parts.{is_used, free_of}
 use Rattle.st_table.specs.declared.device.Device.{Device}
-use Rattle.st_table.specs.Sorted.{is_below, IsRising, entered}
+use Rattle.st_order.specs.Sorted.{IsRising}
 use Rattle.st_table.specs.Table.{TablePool, name_of, is_named, pool_named, knows, names_of, has_serial, IsFree, without, with_pool}
 use Rattle.st_table.specs.inner.Sound.{row_in, path_in, is_user, is_known, IsMarked, IsSound, marked, user_among}
-use Rattle.st_table.proofs.Order.{eq_same, eq_self, eq_turned, rising_first, rising_rest, others_differ, filter_none, all_filtered, all_entered, any_entered, rising_filtered, rising_entered, distinct_filtered, distinct_entered, or_false}
+use Rattle.st_order.proofs.Lists.{weaker, or_first, or_second}
+use Rattle.st_order.proofs.Order.{eq_same, eq_self, eq_turned, rising_first, rising_rest, others_differ, filter_none, all_filtered, all_entered, any_entered, rising_filtered, rising_entered, distinct_filtered, distinct_entered, or_false}
 
 -- ---- marking
 
@@ -86,36 +87,6 @@ number_turned m n h = here (eqb n m) refl
 
 -- ---- lists
 
-pub map-map : {A B C : Type 0} (g : B → C) (f : A → B) (xs : List A) → map g (map f xs) ≡ map (λ x. g (f x)) xs
-map-map g f [] = refl
-map-map g f (x ∷ xs) = ap (λ ys. g (f x) ∷ ys) (map-map g f xs)
-
-pub find-map : {A B : Type 0} (f : A → B) (p : B → Bool) (xs : List A) → find p (map f xs) ≡ option_map f (find (λ x. p (f x)) xs)
-find-map f p [] = refl
-find-map f p (x ∷ xs) =
-    let cases : (b : Bool) → cond b (Some (f x)) (find p (map f xs)) ≡ option_map f (cond b (Some x) (find (λ y. p (f y)) xs)) = elim [ true ↦ refl | false ↦ find-map f p xs ] in
-    cases (p (f x))
-
-pub any-map : {A B : Type 0} (f : A → B) (p : B → Bool) (xs : List A) → list_any p (map f xs) ≡ list_any (λ x. p (f x)) xs
-any-map f p [] = refl
-any-map f p (x ∷ xs) = ap (λ b. p (f x) || b) (any-map f p xs)
-
-pub filter-map : {A B : Type 0} (f : A → B) (p : B → Bool) (xs : List A) → filter p (map f xs) ≡ map f (filter (λ x. p (f x)) xs)
-filter-map f p [] = refl
-filter-map f p (x ∷ xs) =
-    let cases : (b : Bool) → cond b (f x ∷ filter p (map f xs)) (filter p (map f xs)) ≡ map f (cond b (x ∷ filter (λ y. p (f y)) xs) (filter (λ y. p (f y)) xs)) = elim [ true ↦ ap (λ ys. f x ∷ ys) (filter-map f p xs) | false ↦ filter-map f p xs ] in
-    cases (p (f x))
-
-pub entered-map : {A B : Type 0} (f : A → B) (key : B → Text) (y : A) (xs : List A) → map f (entered (λ x. key (f x)) y xs) ≡ entered key (f y) (map f xs)
-entered-map f key y [] = refl
-entered-map f key y (x ∷ xs) =
-    let cases : (b : Bool) → map f (cond b (x ∷ entered (λ z. key (f z)) y xs) (y ∷ x ∷ xs)) ≡ cond b (f x ∷ entered key (f y) (map f xs)) (f y ∷ f x ∷ map f xs) = elim [ true ↦ ap (λ ys. f x ∷ ys) (entered-map f key y xs) | false ↦ refl ] in
-    cases (is_below (key (f x)) (key (f y)))
-
-pub weaker : {A : Type 0} (P Q : A → Type 0) → ((x : A) → P x → Q x) → (xs : List A) → AllByRecursion P xs → AllByRecursion Q xs
-weaker P Q f [] h = tt
-weaker P Q f (x ∷ xs) h = (f x h.0, weaker P Q f xs h.1)
-
 all_both : {A B : Type 0} (g : A → B) (P T : A → Type 0) (Q : B → Type 0) → ((x : A) → P x → T x → Q (g x)) → (xs : List A) → AllByRecursion P xs → AllByRecursion T xs → AllByRecursion Q (map g xs)
 all_both g P T Q f [] h k = tt
 all_both g P T Q f (x ∷ xs) h k = (f x h.0 k.0, all_both g P T Q f xs h.1 k.1)
@@ -131,14 +102,6 @@ found_all P q [] x all h = absurd cc
 found_all P q (y ∷ ys) x all h =
     let cases : (b : Bool) → cond b (Some y) (find q ys) ≡ Some x → P x = elim [ true ↦ (λ k. let same : y ≡ x = cc in subst P same all.0) | false ↦ (λ k. found_all P q ys x all.1 k) ] in
     cases (q y) h
-
-pub or_first : (a b : Bool) → (a || b) ≡ false → a ≡ false
-or_first true b h = absurd cc
-or_first false b h = refl
-
-pub or_second : (a b : Bool) → (a || b) ≡ false → b ≡ false
-or_second true b h = absurd cc
-or_second false b h = h
 
 abbrev serial_of : TablePool → ℕ
 serial_of pool = pool.known.serial

@@ -1,3 +1,3 @@
-pub mod Sorted
+pub mod Stands
 pub mod Table
 pub mod inner

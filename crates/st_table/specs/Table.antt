@@ -13,7 +13,7 @@ use Rattle.st_model.specs.Parts.{is_used, free_of}
 use Rattle.st_table.specs.declared.halted.HaltedInfo.{HaltedInfo}
 use Rattle.st_table.specs.declared.halted.HaltedMode.{HaltedMode}
 use Rattle.st_table.specs.declared.halted.HaltedMode.TheVariants.{Stopped, Unsettled, Incomplete}
-use Rattle.st_table.specs.Sorted.{IsRising, entered}
+use Rattle.st_order.specs.Sorted.{IsRising, entered}
 
 -- a known pool; `halted` tells more of one that isn't started
 pub record TablePool : Type 0 where

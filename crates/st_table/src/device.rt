@@ -1,8 +1,8 @@
 ghost use Rattle.std.specs.Prelude.{◌≡◌, ◌∷◌, [], map};
 ghost use Rattle.st_table.specs.inner.Sound.{marked, path_in};
-ghost use Rattle.st_table.specs.Sorted.{IsRising};
+ghost use Rattle.st_order.specs.Sorted.{IsRising};
 
-use crate::sorted::{Keyed, search};
+use st_order::{Keyed, search};
 use st_units::{DevPath, DevRow};
 
 /// A device of the rack, marked with the pool that uses it.

@@ -5,10 +5,12 @@
 
 mod device;
 mod halted;
+mod laws;
 mod pool;
 mod roster;
 mod sorted;
 mod table;
 
 pub use halted::{HaltedInfo, HaltedMode};
+pub use laws::tells_as_the_model;
 pub use table::Table;

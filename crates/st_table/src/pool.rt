@@ -3,7 +3,7 @@ ghost use Rattle.st_table.specs.Table.{holding, with_devices};
 ghost use Rattle.st_table.specs.inner.Sound.{devices_held, new_held, info_held, table_pool};
 
 use crate::halted::{HaltedInfo, copy_name};
-use crate::sorted::Keyed;
+use st_order::Keyed;
 use st_units::{DevList, DevPath, Name, NoMemory, PoolSerial};
 use std::alloc::Global;
 

@@ -4,14 +4,14 @@ ghost use Rattle.st_units.specs.declared.rows.DevRow.{DevRow};
 ghost use Rattle.st_model.specs.Look.{is_name_of, row_of};
 ghost use Rattle.st_model.specs.OnTable.{user_of};
 ghost use Rattle.st_model.specs.Parts.{free_of};
-ghost use Rattle.st_table.specs.Sorted.{IsRising};
+ghost use Rattle.st_order.specs.Sorted.{IsRising};
 ghost use Rattle.st_table.specs.Table.{TablePool, pool_named, knows, names_of, is_taken, has_serial, IsFree, without, with_pool, stopped_row};
 ghost use Rattle.st_table.specs.inner.Sound.{devices_held, new_held, is_user, table_pool, row_in, path_in, marked, user_among};
 
 use crate::device::{Device, mark};
 use crate::pool::Pool;
-use crate::sorted::search;
 use st_model::{StoppedList, StoppedRow};
+use st_order::search;
 use st_units::{DevList, DevPath, DevRow, DevRows, Name, NoMemory};
 use std::alloc::Global;
 use std::marker::Model;

@@ -2,7 +2,7 @@ ghost use Rattle.std.specs.Prelude.{◌≡◌, ◌+◌, ◌<◌, ◌≤◌, ◌^
 ghost use Rattle.std.specs.List.{AllByRecursion};
 ghost use Rattle.st_units.specs.declared.rows.DevRow.{DevRow};
 ghost use Rattle.st_model.specs.Look.{row_of};
-ghost use Rattle.st_table.specs.Sorted.{IsRising};
+ghost use Rattle.st_order.specs.Sorted.{IsRising};
 ghost use Rattle.st_table.specs.Table.{TablePool, TableView, pool_named, knows, runs, is_taken, has_serial, IsFree, without, with_pool, with_instead, changed, next_above, new_pool, renamed, holding, with_devices, halted_as, woken, new_at, halted_at, user_name, AreInOrder, shown};
 
 use crate::halted::HaltedInfo;

@@ -8,3 +8,4 @@ pub mod Demands
 pub mod Plans
 pub mod Runs
 pub mod Copying
+pub mod Dropping

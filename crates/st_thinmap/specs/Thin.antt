@@ -1,6 +1,7 @@
 -- what a thin map stands for, and what its calls make of it
 use Rattle.std.specs.Prelude.{◌≡◌, ◌≢◌, ℕ, ◌+◌, ◌^◌, ◌<◌, ◌≤◌, not, nat_eq, nat_lt, List, [], ◌∷◌, length, map, filter, if◌then◌else◌}
 use Rattle.std.specs.List.{All}
+use Rattle.st_limits.specs.Cache.{has}
 use Rattle.st_limits.specs.Sums as sums
 use Rattle.st_limits.specs.declared.TheConstants.{MAX_MAPPINGS}
 use Rattle.st_thinmap.specs.declared.mapping.Mapping.{Mapping}
@@ -23,6 +24,10 @@ of_fs fs rows = filter (λ m. nat_eq m.fs fs) rows
 
 abbrev pub without_fs : ℕ → List Mapping → List Mapping
 without_fs fs rows = filter (λ m. not (nat_eq m.fs fs)) rows
+
+-- the cells of a filesystem's mappings that no other filesystem's mapping has
+abbrev pub gone_with : ℕ → List Mapping → List ℕ
+gone_with fs rows = filter (λ c. not (has c (cells_of (without_fs fs rows)))) (cells_of (of_fs fs rows))
 
 -- a filesystem's map, as pairs of block and cell
 abbrev pub map_of : ℕ → List Mapping → List (ℕ × ℕ)

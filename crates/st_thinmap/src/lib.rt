@@ -2,6 +2,7 @@
 #![tactic(auto)]
 
 mod copies;
+mod dropped;
 mod fault;
 mod map;
 mod mapping;
@@ -12,6 +13,6 @@ mod uses;
 mod write;
 
 pub use fault::{MapFault, PlanFault};
-pub use map::ThinMap;
+pub use map::{CellList, ThinMap};
 pub use mapping::Mapping;
 pub use plan::{Fresh, Plan};

@@ -4,19 +4,23 @@ ghost use Rattle.st_limits.specs.declared.TheConstants.{MAX_MAPPINGS};
 ghost use Rattle.st_thinmap.specs.declared.fault.MapFault.TheVariants.{MappingFull};
 ghost use Rattle.st_thinmap.specs.Order.{mapping_at, put};
 ghost use Rattle.st_thinmap.specs.inner.Tied.{lies_at};
-ghost use Rattle.st_thinmap.specs.Thin.{AgreesWith, Fits, IsThin, of_fs, fresh_mapping, used, with_fresh, with_fs};
+ghost use Rattle.st_thinmap.specs.Thin.{AgreesWith, Fits, IsThin, of_fs, fresh_mapping, gone_with, used, with_fresh, with_fs, without_fs};
 
 use crate::copies::copy_rows;
+use crate::dropped::{lower_run, push_unused};
 use crate::fault::MapFault;
 use crate::mapping::Mapping;
-use crate::order::run_of;
+use crate::order::{own_rows, run_of};
 use crate::plan::{Fresh, Plan};
-use crate::rows::{find_row, put_row};
+use crate::rows::{find_row, put_row, remove_rows};
 use crate::uses::{Use, add_use, begin, count_of, gap, lower_old};
 use st_limits::MAX_MAPPINGS;
-use st_units::NoMemory;
+use st_units::{ItemList, NoMemory};
 use std::alloc::{AllocError, Global};
 use std::marker::Model;
+
+/// Numbers of cells.
+pub type CellList = ItemList<u64>;
 
 /// Which cell each block of each filesystem is mapped to, and where the cell lies; contracts see the mappings in order,
 /// the number of the next fresh cell, and how many mappings more take no memory. A block that has no mapping has no cell.
@@ -228,6 +232,22 @@ impl ThinMap {
     {
         let (start, end) = run_of(&self.rows, origin);
         copy_rows(&mut self.rows, &mut self.uses, start, end, fs);
+    }
+
+    /// Takes out the mappings of a filesystem, and gives the cells that no other filesystem's mapping has, in the order of
+    /// the blocks. It takes memory for these cells alone, before anything changes, and time in the number of all mappings.
+    pub fn remove(&mut self, alloc: Global, fs: u64) -> Result<CellList, NoMemory>
+        ensures rows { OnOk result (self.new.rows ≡ without_fs fs self.old.rows) }
+        ensures gone { IfOk result (λ gone. gone ≡ gone_with fs self.old.rows) }
+        ensures err { OnErr result (self.new.rows ≡ self.old.rows) }
+        ensures next { self.new.next ≡ self.old.next }
+    {
+        let own = own_rows(&self.rows, fs);
+        let mut gone = Vec::with_capacity(alloc, own.len())?;
+        lower_run(&mut self.uses, own);
+        push_unused(&mut gone, &self.uses, own);
+        remove_rows(&mut self.rows, fs);
+        Ok(CellList::of(gone))
     }
 
     /// Maps the blocks of a plan that this map gave to its fresh cells, with no other change of the map since. It takes no memory.

@@ -1,6 +1,9 @@
 //! Where a number stands among items in order.
-ghost use Rattle.std.specs.Prelude.{◌≡◌, ◌+◌, ◌≤◌, length};
+ghost use Rattle.std.specs.Prelude.{◌≡◌, ◌+◌, ◌^◌, ◌<◌, ◌≤◌, length};
+ghost use Rattle.std.specs.List.{All};
+ghost use Rattle.st_thinmap.specs.declared.mapping.Mapping.{Mapping};
 ghost use Rattle.st_thinmap.specs.Order.{RisesFrom, key, key_of};
+ghost use Rattle.st_thinmap.specs.Thin.{of_fs};
 ghost use Rattle.st_thinmap.specs.inner.Rank.{rank};
 ghost use Rattle.st_thinmap.specs.inner.Uses as table;
 
@@ -32,6 +35,16 @@ pub fn run_of(rows: &[Mapping], fs: u64) -> (usize, usize)
 {
     let start = key_of(fs, 0);
     (rank_of(rows, start), rank_of(rows, start + 4_294_967_296))
+}
+
+/// The rows of a filesystem.
+pub fn own_rows(rows: &[Mapping], fs: u64) -> &[Mapping]
+    requires order { RisesFrom key 0 rows.now }
+    requires blocks { All (λ (m : Mapping). m.block < 2 ^ 32) rows.now }
+    ensures { result.now ≡ of_fs fs rows.now }
+{
+    let (start, end) = run_of(rows, fs);
+    &rows[start..end]
 }
 
 /// How many rows have lower numbers.

@@ -1,6 +1,7 @@
 //! The mappings in order.
 ghost use Rattle.std.specs.Prelude.{◌≡◌, ◌+◌, ◌<◌, ◌≤◌, insert, length, vec_len};
 ghost use Rattle.std.specs.Vec.{vec_capacity};
+ghost use Rattle.st_thinmap.specs.Thin.{without_fs};
 ghost use Rattle.st_thinmap.specs.Order.{RisesFrom, item_at, key, mapping_at, put};
 
 use crate::mapping::Mapping;
@@ -49,4 +50,11 @@ fn insert_row(rows: &mut Vec<Mapping>, at: usize, mapping: Mapping)
         Ok(()) => {}
         Err(_) => unreachable!(),
     }
+}
+
+/// Takes out the rows of a filesystem. It takes no memory.
+pub fn remove_rows(rows: &mut Vec<Mapping>, fs: u64)
+    ensures { rows.new.items ≡ without_fs fs rows.old.items }
+{
+    rows.retain(|row| row.fs != fs);
 }

@@ -10,13 +10,19 @@ use crate::steps::{TableSeat, TurnTable, draw, enter};
 use std::sync::Wait;
 use std::{hint, thread};
 
-// A seat looks so often with a short pause, and so often in all before it sleeps; between, it yields its processor after
-// each look. Most turns are shorter than a sleep, and looks for about a millisecond cost no more than one.
-const SPINS: u32 = 50;
+// A seat looks so often with a short pause; from then on it yields its processor after each look.
+const SPINS: u32 = 20;
 
-const LOOKS: u32 = 1_050;
+// So often it looks before it draws a ticket while the book is out. A ticket that is drawn has to be served before each
+// later one, and its thread may be off its processor just then; a seat that draws when the book is at home has it at once.
+// So few looks keep nobody out for long, and spare most hand-overs to threads that don't run.
+const LOOKS_BEFORE: u32 = 400;
 
-/// Draws the next ticket.
+// So often it looks with its ticket before it sleeps. Most turns are shorter than a sleep, and looks for about a
+// millisecond cost no more than one.
+const LOOKS: u32 = 1_000;
+
+/// Draws the next ticket: at once where no other is drawn that wasn't served, else after a while.
 pub fn draw_ticket<B: Logged>(rt: &impl Wait, table: &TurnTable<B>, seat: &mut TableSeat<B>) -> u64
     requires words { table.now.table_id.words ≡ 3 }
     requires here { seat.old.table_id ≡ table.now.table_id }
@@ -24,9 +30,13 @@ pub fn draw_ticket<B: Logged>(rt: &impl Wait, table: &TurnTable<B>, seat: &mut T
     ensures here { seat.new.table_id ≡ seat.old.table_id }
     ensures drew { seat.new.me ≡ (record seat.old.me.0 { place = Waiting result }, seat.old.me.1) }
 {
+    let mut looks = 0u32;
     for _ in rt.forever() {
         let ticket = table.peek(TICKET);
-        if ticket < u64::MAX && draw(table, seat, ticket) == ticket {
+        if looks < LOOKS_BEFORE && table.peek(SERVING) != ticket {
+            let_go_by(looks);
+            looks += 1;
+        } else if ticket < u64::MAX && draw(table, seat, ticket) == ticket {
             return ticket;
         }
     }
@@ -60,14 +70,21 @@ pub fn wait_turn<B: Logged>(
     unreachable!()
 }
 
+/// A moment in which others may go on, the longer one after some looks.
+fn let_go_by(looks: u32) {
+    if looks < SPINS {
+        hint::spin_loop();
+    } else {
+        thread::yield_now();
+    }
+}
+
 /// Rests a while, since this ticket was served at the last look: a moment at first, then until another is served.
 fn pause<B: Logged>(rt: &impl Wait, table: &TurnTable<B>, looks: u32, serving: u64)
     requires words { table.now.table_id.words ≡ 3 }
 {
-    if looks < SPINS {
-        hint::spin_loop();
-    } else if looks < LOOKS {
-        thread::yield_now();
+    if looks < LOOKS {
+        let_go_by(looks);
     } else {
         table.park(rt, SERVING, (serving % (1 << 32)) as u32);
     }

@@ -3,7 +3,8 @@
 
 use st_lines::{Reading, Writing};
 use st_model::NoGate;
-use st_session::{Status, exit_status, run_words, status_line};
+use st_session::run_words;
+use st_status::{Status, exit_status, status_line};
 use std::process::ExitCode;
 use std::{env, io};
 

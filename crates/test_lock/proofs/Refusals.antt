@@ -1,9 +1,11 @@
 -- what a call that is refused memory owes at its release
-use Rattle.std.proofs.Common.{ℕ, ◌≡◌, ◌≤◌, ◌<◌, ◌^◌, ◌+◌, length, arith, Bool, true, false, cond, List, [], ◌∷◌, map, Option, Some, None, refl, ap, sym, ◌∙◌, subst}
+use Rattle.std.proofs.Common.{ℕ, ◌≡◌, ◌≤◌, ◌<◌, ◌^◌, ◌+◌, length, arith, Bool, true, false, cond, List, [], ◌∷◌, ◌++◌, map, Option, Some, None, refl, ap, sym, ◌∙◌, subst}
 use Rattle.std.specs.Prelude.{IfSome, option_map, bytes_eq}
 use Rattle.std.specs.List.{AllByRecursion, IsDistinct}
 use Rattle.std.specs.Cmp.Lexicographic.{nat_list_eq_equiv}
 use Rattle.st_units.specs.declared.cause.Cause.TheVariants.{OutOfMemory}
+use Rattle.st_grants.proofs.Sound.{some_and}
+use Rattle.st_wants.specs.declared.row.LockRow.{LockRow}
 use Rattle.st_wants.specs.declared.want.Want.{Want}
 use Rattle.st_wants.specs.Wants.{writes, takes_table}
 use Rattle.st_model.specs.declared.call.Call.{Call}
@@ -26,8 +28,9 @@ use Rattle.st_book.specs.View.{TableView}
 use Rattle.st_history.specs.Failures.{failures_of}
 use Rattle.st_book.specs.Noted.{grant_with, IsNoted}
 use Rattle.st_lock.specs.Held.{Rose}
-use Rattle.st_lock.specs.Seats.{LockSeat}
-use Rattle.test_lock.specs.Refusing.{refused_entry}
+use Rattle.st_lock.specs.Seats.{LockSeat, IsLater, own_row, state_at}
+use Rattle.st_lock.proofs.Granting.{noted_last}
+use Rattle.test_lock.specs.Refusing.{Awaits, Holds, refused_entry}
 
 refused-outcome : (s : EngineState) (call : Call) → outcome s call NoMem ≡ Some (refused OutOfMemory, s)
 refused-outcome s (CreatePool name devices) = refl
@@ -120,3 +123,26 @@ rose_with v t n k faults call e es is alone noted whole =
     let all : es ≡ refused_entry call k ∷ [] = alone ∙ ap (λ (x : Entry). x ∷ []) is in
     let none : failures_of es ≡ 0 = ap failures_of all ∙ none_failed call k in
     record { number = n; noted = noted; rose = λ short. let same = whole short in omega arith }
+
+-- what a grant gives is what the ticket's holder needs to release it
+pub holds-of : (old new : LockSeat) (t u faults cut : ℕ) (call : Call) (cells : List PoolState) (table : Option TableView) → Awaits old t call → IsLater old new → new.own ≡ old.own ++ grant_with old.number u cut ∷ []
+    → IfSome (own_row t old) (λ r. own_row u new ≡ Some (record r { live = true })) → IfSome (own_row t old) (λ r. PartStands r.want (state_at new) cells table) → IfSome table (λ (w : TableView). new.opening.base ≤ w.slack)
+    → (length new.seen < 2 ^ 62 → cut ≡ faults) → Holds new u call cells table faults
+holds-of old new t u faults cut call cells table waits later own row part slack whole =
+    let told = some_and (λ (r : LockRow). (r.live ≡ false) × (r.want ≡ want_of call)) (own_row t old) waits in
+    let live = rw told.1 at row in
+    let stands = rw told.1 at part in
+    record {
+      row = rw live (refl, told.2.1);
+      heard = later.heard;
+      part = subst (λ w. PartStands w (state_at new) cells table) told.2.1 stands;
+      slack = slack;
+      number = cut;
+      noted = subst (λ n. IsNoted (grant_with n u cut) new.own) (sym later.number) (subst (λ es. IsNoted (grant_with old.number u cut) es) (sym own) (noted_last old.own (grant_with old.number u cut)));
+      whole = λ short. sym (whole short);
+    }
+
+-- one entry put into an empty list
+pub alone_in : (xs ys : List Entry) (e : Entry) → length xs ≡ 0 → ys ≡ xs ++ e ∷ [] → ys ≡ e ∷ []
+alone_in [] ys e none is = is
+alone_in (x ∷ xs) ys e none is = absurd (omega (arith, none))

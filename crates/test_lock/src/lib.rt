@@ -5,6 +5,11 @@
 mod book;
 #[cfg(test)]
 mod grants;
+#[cfg(test)]
+mod lock;
+pub mod plain_lock;
 pub mod refusing;
 #[cfg(test)]
 mod turn;
+#[cfg(test)]
+mod visits;

@@ -1,7 +1,8 @@
 use anyhow::Result;
 use st_lines::{Limit, MemorySink, MemorySource};
 use st_model::{Gate, NoGate};
-use st_session::{Status, exit_status, run_words, status_line};
+use st_session::run_words;
+use st_status::{Status, exit_status, status_line};
 use std::alloc::Global;
 use std::sync::atomic::{AtomicU64, Ordering};
 
@@ -256,22 +257,6 @@ fn the_gate_is_passed_once_a_call(rt: HostRuntime) -> Result<()> {
     let outcome = run_words(&rt, alloc, &words, &mut source, &mut sink, rack, &gate);
     assert_eq!(rt; exit_status(&outcome.status), 0);
     assert_eq!(rt; gate.passes.load(Ordering::SeqCst), 2);
-    Ok(())
-}
-
-#[test]
-fn words_that_are_not_served_yet_are_usage(rt: HostRuntime) -> Result<()> {
-    let alloc = rt.alloc();
-    for mode in ["check", "gen"] {
-        let words = vec![in alloc; String::from_str(alloc, mode)?]?;
-        let mut source = source(alloc, "", Vec::new(alloc))?;
-        let mut sink = MemorySink::new(alloc, 1000, Vec::new(alloc));
-        let Ok(rack) = sim_devices::rack(alloc, 1) else {
-            panic!(rt; "out of memory");
-        };
-        let outcome = run_words(&rt, alloc, &words, &mut source, &mut sink, rack, &NoGate);
-        assert_eq!(rt; exit_status(&outcome.status), 2, "{}", mode);
-    }
     Ok(())
 }
 

@@ -12,7 +12,7 @@ use Rattle.st_model.specs.declared.state.PoolMode.TheVariants.{Up, Down}
 use Rattle.st_model.specs.declared.state.PoolState.{PoolState}
 use Rattle.st_model.specs.declared.state.EngineState.{EngineState}
 use Rattle.st_model.specs.Answer.{accepted, refused, refused_where, first_answer, unless_answered}
-use Rattle.st_model.specs.Checks.{no_devices, absent_device, used_device, small_device, sectors_of}
+use Rattle.st_model.specs.Checks.{no_devices, absent_device, used_device, rows_on, small_device}
 use Rattle.st_model.specs.Look.{Text, has_path, distinct, is_called, holder, is_up}
 use Rattle.st_model.specs.Sums.{data_tier}
 
@@ -47,7 +47,7 @@ unfoldable pub create_answer : EngineState → Text → List Text → Option Rep
 create_answer s name paths = first_answer (create_answers s name paths)
 
 abbrev pub data_rows : List DevRow → List Text → List DevRow
-data_rows rows paths = map (λ path. record { path = path; tier = DataTier; sectors = sectors_of path rows }) paths
+data_rows rows paths = rows_on DataTier rows paths
 
 abbrev pub new_pool : ℕ → Text → List DevRow → PoolState
 new_pool serial name rows = record {

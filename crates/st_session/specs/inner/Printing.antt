@@ -1,6 +1,5 @@
--- how far the output has come
+-- the output in the words of the answers
 use Rattle.std.specs.Prelude.{ℕ, ◌≡◌, ◌+◌, List, [], ◌∷◌, ◌++◌, Bool, false, length, Option, Some, None, IsSomeAnd, if◌then◌else◌}
-use Rattle.std.specs.Io.KnownBytes.{Appends}
 use Rattle.st_units.specs.declared.cause.Cause.TheVariants as causes
 use Rattle.st_model.specs.declared.entry.Entry.{Entry}
 use Rattle.st_history.specs.declared.log.Event.{Event}
@@ -11,23 +10,9 @@ use Rattle.st_replies.specs.Shown.{reply_line, not_built_line}
 use Rattle.st_session.specs.declared.session.Answer.{Answer}
 use Rattle.st_session.specs.declared.session.Answer.TheVariants.{Ran, Fault, NotBuilt, Refused}
 use Rattle.st_session.specs.Entries.{entries_of, entry_of}
-use Rattle.st_session.specs.Out.{fault_line, entered_line, is_ok, trace_of, summary}
-use Rattle.st_session.specs.Statuses.{Started}
+use Rattle.st_check.specs.Checked.{fault_reply}
+use Rattle.st_session.specs.Out.{entered_line, is_ok, trace_of, summary}
 use Rattle.st_session.specs.inner.Running.{IsRelease}
-
--- the sink took the front of the whole, then come the bytes that wait, and then the rest
-pub record Printing (before now : Option (List ℕ)) (waiting rest whole : List ℕ) : Type 0 where
-  pub written : List ℕ
-  pub took : Appends before now written
-  pub makes : written ++ (waiting ++ rest) ≡ whole
-
--- the text is printed, whatever comes before and behind it
-abbrev pub Prints : Option (List ℕ) → List ℕ → Option (List ℕ) → List ℕ → List ℕ → Type 0
-Prints held waiting now left text = (before : Option (List ℕ)) (rest whole : List ℕ) → Printing before held waiting (text ++ rest) whole → Printing before now left rest whole
-
--- the printing stopped on the way
-abbrev pub Stops : Option (List ℕ) → List ℕ → Option (List ℕ) → List ℕ → Type 0
-Stops held waiting now text = (before : Option (List ℕ)) (rest whole : List ℕ) → Printing before held waiting (text ++ rest) whole → Started before now whole
 
 -- the reply line of line n, from its answer
 abbrev pub entry_line : ℕ → Option Entry → List ℕ
@@ -36,7 +21,7 @@ entry_line n (Some e) = entered_line n e
 
 abbrev pub shown_line : ℕ → List Event → Answer → List ℕ
 shown_line n log (Ran place) = entry_line n (entry_of n (entries_of log))
-shown_line n log (Fault fault) = fault_line n fault
+shown_line n log (Fault fault) = reply_line n (fault_reply fault)
 shown_line n log (NotBuilt call) = not_built_line n (call_word call)
 shown_line n log Refused = reply_line n (refused causes.OutOfMemory)
 

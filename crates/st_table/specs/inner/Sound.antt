@@ -9,7 +9,7 @@ use Rattle.st_table.specs.declared.halted.HaltedInfo.{HaltedInfo}
 use Rattle.st_table.specs.declared.pool.Holding.{Holding}
 use Rattle.st_table.specs.declared.pool.Holding.TheVariants.{Started, Halted}
 use Rattle.st_table.specs.declared.pool.Pool.{Pool}
-use Rattle.st_table.specs.Sorted.{IsRising}
+use Rattle.st_order.specs.Sorted.{IsRising}
 use Rattle.st_table.specs.Table.{TablePool, name_of, has_serial}
 
 abbrev pub devices_held : Holding → List Text

@@ -34,7 +34,7 @@ returns-in_err-append-clause-moves g c =
     let high : at + length bytes ≤ 512 * (flex.area.at + 2 * flex.area.slot) = omega (arith, within.1, size) in
     let off : ((r : ℕ) → r < 2 → Off (place_at pool r) (512 * pool.slot) at (length bytes)) = (λ r lt. off_within pool flex.area r at (length bytes) c.requires.apart lt within.0 high) in
     let sound : IsSound flex = record { eight = c.append.ensures.eight_area; small = (let lies = c.requires.flex_lies dev c.at.ensures in omega (arith, lies.small)) } in
-    moves_run pool flex devs M S dev at bytes c.at.ensures within.0 high r0 r1 c.append.ensures.time
+    moves_run pool flex G devs M S dev at bytes c.at.ensures within.0 high r0 r1 c.append.ensures.time
 
 pub returns-clause-moves : goal.returns-clause-moves
 returns-clause-moves g c =
@@ -55,7 +55,7 @@ returns-clause-moves g c =
     let high : at + length bytes ≤ 512 * (flex.area.at + 2 * flex.area.slot) = omega (arith, within.1, size) in
     let off : ((r : ℕ) → r < 2 → Off (place_at pool r) (512 * pool.slot) at (length bytes)) = (λ r lt. off_within pool flex.area r at (length bytes) c.requires.apart lt within.0 high) in
     let sound : IsSound flex = record { eight = c.append.ensures.eight_area; small = (let lies = c.requires.flex_lies dev c.at.ensures in omega (arith, lies.small)) } in
-    moves_on pool flex devs M S G r0 r1 c.commit.new.rack (moves_run pool flex devs M S dev at bytes c.at.ensures within.0 high r0 r1 c.append.ensures.time) c.commit.ensures.spares
+    moves_on pool flex G devs M S r0 r1 c.commit.new.rack (moves_run pool flex G devs M S dev at bytes c.at.ensures within.0 high r0 r1 c.append.ensures.time) c.commit.ensures.spares
 
 pub returns-in_err-append-clause-others : goal.returns-in_err-append-clause-others
 returns-in_err-append-clause-others g c =

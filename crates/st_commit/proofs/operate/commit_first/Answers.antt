@@ -35,7 +35,7 @@ returns-in_err-tail-clause-moves g c =
     let within = slot_within flex.area slot (length bytes) (omega arith) (bytes_fit flex.area G body eight c.requires.flex_fits) in
     let off : ((r : ℕ) → r < 2 → Off (place_at pool r) (512 * pool.slot) at (length bytes)) = (λ r lt. off_within pool flex.area r at (length bytes) c.requires.apart lt within.0 within.1) in
     let sound : IsSound flex = record { eight = eight; small = small } in
-    moves_run pool flex devs M S dev at bytes c.at.ensures within.0 within.1 r0 r1 c.checkpoint.ensures.time
+    moves_run pool flex G devs M S dev at bytes c.at.ensures within.0 within.1 r0 r1 c.checkpoint.ensures.time
 
 pub returns-in_err-tail-clause-others : goal.returns-in_err-tail-clause-others
 returns-in_err-tail-clause-others g c =
@@ -81,7 +81,7 @@ returns-in_err-commit-clause-moves g c =
     let within = slot_within flex.area slot (length bytes) (omega arith) (bytes_fit flex.area G body eight c.requires.flex_fits) in
     let off : ((r : ℕ) → r < 2 → Off (place_at pool r) (512 * pool.slot) at (length bytes)) = (λ r lt. off_within pool flex.area r at (length bytes) c.requires.apart lt within.0 within.1) in
     let sound : IsSound flex = record { eight = eight; small = small } in
-    moves_on pool flex devs M S G r0 r1 c.commit.new.rack (moves_run pool flex devs M S dev at bytes c.at.ensures within.0 within.1 r0 r1 c.checkpoint.ensures.time) c.commit.ensures.spares
+    moves_on pool flex G devs M S r0 r1 c.commit.new.rack (moves_run pool flex G devs M S dev at bytes c.at.ensures within.0 within.1 r0 r1 c.checkpoint.ensures.time) c.commit.ensures.spares
 
 pub returns-in_err-commit-clause-others : goal.returns-in_err-commit-clause-others
 returns-in_err-commit-clause-others g c =
@@ -127,7 +127,7 @@ returns-clause-moves g c =
     let within = slot_within flex.area slot (length bytes) (omega arith) (bytes_fit flex.area G body eight c.requires.flex_fits) in
     let off : ((r : ℕ) → r < 2 → Off (place_at pool r) (512 * pool.slot) at (length bytes)) = (λ r lt. off_within pool flex.area r at (length bytes) c.requires.apart lt within.0 within.1) in
     let sound : IsSound flex = record { eight = eight; small = small } in
-    moves_on pool flex devs M S G r0 r1 c.commit.new.rack (moves_run pool flex devs M S dev at bytes c.at.ensures within.0 within.1 r0 r1 c.checkpoint.ensures.time) c.commit.ensures.spares
+    moves_on pool flex G devs M S r0 r1 c.commit.new.rack (moves_run pool flex G devs M S dev at bytes c.at.ensures within.0 within.1 r0 r1 c.checkpoint.ensures.time) c.commit.ensures.spares
 
 pub returns-clause-others : goal.returns-clause-others
 returns-clause-others g c =

@@ -2,8 +2,9 @@ use Rattle.std.proofs.Common.{◌≡◌, ℕ, zero, suc, ◌+◌, ◌<◌, arith
 use Rattle.std.proofs.lemmas.List.{at_drop_more}
 use Rattle.st_session.specs.declared.session.Answer.{Answer}
 use Rattle.st_session.specs.declared.session.Answer.TheVariants.{Ran}
-use Rattle.st_session.specs.inner.Printing.{Stops, shown_line, shown_from}
-use Rattle.st_session.proofs.Printed.{on_err, printing_as, printing-Started}
+use Rattle.st_lines.specs.Printing.{Stops}
+use Rattle.st_session.specs.inner.Printing.{shown_line, shown_from}
+use Rattle.st_lines.proofs.Printed.{on_err, printing_as, printing-Started}
 use Rattle.st_session.proofs.output.print_replies.Goals as goal
 
 -- within a list the default isn't looked at

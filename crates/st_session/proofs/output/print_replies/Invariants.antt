@@ -1,5 +1,6 @@
 use Rattle.std.proofs.Common.{◌≡◌, ℕ, ◌+◌, ◌≤◌, ◌++◌, List, Option, drop}
-use Rattle.st_session.specs.inner.Printing.{Printing, AreShown, shown_from, shown_oks}
+use Rattle.st_lines.specs.Printing.{Printing}
+use Rattle.st_session.specs.inner.Printing.{AreShown, shown_from, shown_oks}
 use Rattle.st_session.proofs.output.print_replies.Given as goal
 
 abbrev pub invariant-loop-answer : goal.invariant-loop-answer

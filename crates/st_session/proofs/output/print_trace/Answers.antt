@@ -3,8 +3,8 @@ use Rattle.std.proofs.lemmas.List.{at_drop_more}
 use Rattle.st_history.specs.declared.log.Event.{Event}
 use Rattle.st_trace.specs.Traced.{trace_line}
 use Rattle.st_session.specs.Out.{trace_of}
-use Rattle.st_session.specs.inner.Printing.{Stops}
-use Rattle.st_session.proofs.Printed.{on_err, printing_as, printing-Started}
+use Rattle.st_lines.specs.Printing.{Stops}
+use Rattle.st_lines.proofs.Printed.{on_err, printing_as, printing-Started}
 use Rattle.st_session.proofs.output.print_trace.Goals as goal
 
 pub returns-in_err-text-clause-stops : goal.returns-in_err-text-clause-stops

@@ -1,6 +1,6 @@
 use Rattle.std.proofs.Common.{ℕ, ◌≤◌, ◌++◌, List, Option, drop}
 use Rattle.st_session.specs.Out.{trace_of}
-use Rattle.st_session.specs.inner.Printing.{Printing}
+use Rattle.st_lines.specs.Printing.{Printing}
 use Rattle.st_session.proofs.output.print_trace.Given as goal
 
 abbrev pub invariant-loop-event : goal.invariant-loop-event

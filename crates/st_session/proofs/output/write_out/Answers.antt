@@ -1,7 +1,8 @@
 use Rattle.std.proofs.Common.{◌≡◌, ℕ, List, [], ◌++◌, length, sym, ap, append-nil}
 use Rattle.st_session.specs.Out.{trace_of, summary}
-use Rattle.st_session.specs.inner.Printing.{Printing, shown_oks, whole}
-use Rattle.st_session.proofs.Printed.{on_err, printing_as, printing_start, printing_cut_end, printing_end}
+use Rattle.st_lines.specs.Printing.{Printing}
+use Rattle.st_session.specs.inner.Printing.{shown_oks, whole}
+use Rattle.st_lines.proofs.Printed.{on_err, printing_as, printing_start, printing_cut_end, printing_end}
 use Rattle.st_session.proofs.output.write_out.Goals as goal
 
 pub returns-in_err-oks-clause-prefix : goal.returns-in_err-oks-clause-prefix

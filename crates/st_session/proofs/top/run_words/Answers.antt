@@ -1,8 +1,21 @@
+use Rattle.std.proofs.Common.{◌≡◌, ◌⊎◌, ℕ, List, Option, sym, subst}
+use Rattle.st_status.proofs.Nothing.{nothing_due}
+use Rattle.st_status.specs.Statuses.{Wrote}
+use Rattle.st_status.specs.declared.status.Status.{Status}
+use Rattle.st_status.specs.declared.status.Status.TheVariants.{Usage, OutOfMemory}
+use Rattle.st_check.proofs.Verdicts.{nothing_checked}
 use Rattle.st_session.proofs.Runs.{unwritten}
 use Rattle.st_session.proofs.top.run_words.Goals as goal
 
-pub returns-in-Err-OutOfMemory-clause-out_of_memory : goal.returns-in-Err-OutOfMemory-clause-out_of_memory
-returns-in-Err-OutOfMemory-clause-out_of_memory g c = λ e. unwritten _ _ _ _ _ _ c.early-in-Err-OutOfMemory.ensures.log
+-- words that aren't served: nothing is written
+unserved : (status told : Status) (held : Option (List ℕ)) (output : List ℕ) → status ≡ told → (told ≡ Usage) ⊎ (told ≡ OutOfMemory) → Wrote status held held output
+unserved status told held output same other = subst (λ (s : Status). Wrote s held held output) (sym same) (nothing_due told held output other)
 
 pub returns-in-Err-clause-out_of_memory : goal.returns-in-Err-clause-out_of_memory
-returns-in-Err-clause-out_of_memory g c = λ e. unwritten _ _ _ _ _ _ c.early-in-Err.ensures.log
+returns-in-Err-clause-out_of_memory g c = λ mode memory. unwritten _ _ _ _ _ _ c.early.ensures.log
+
+pub returns-in-Err-clause-checked : goal.returns-in-Err-clause-checked
+returns-in-Err-clause-checked g c = λ mode. nothing_checked _ _ _ _ (λ output. unserved _ _ _ output c.early.ensures.status c.in-Err.ensures.other)
+
+pub returns-in-Err-clause-generated : goal.returns-in-Err-clause-generated
+returns-in-Err-clause-generated g c = λ mode. unserved _ _ _ _ c.early.ensures.status c.in-Err.ensures.other

@@ -3,7 +3,7 @@ use Rattle.std.proofs.lemmas.List.{at_drop_more, drop_all}
 use Rattle.st_model.specs.Look.{Text}
 use Rattle.st_table.specs.declared.device.Device.{Device}
 use Rattle.st_table.specs.inner.Sound.{marked}
-use Rattle.st_table.specs.Sorted.{IsRising}
+use Rattle.st_order.specs.Sorted.{IsRising}
 use Rattle.st_table.proofs.Marks.{marked_next, marked_none, paths_kept}
 use Rattle.st_table.proofs.device.mark.Goals as goal
 

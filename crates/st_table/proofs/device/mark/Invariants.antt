@@ -1,6 +1,6 @@
 use Rattle.std.proofs.Common.{◌≡◌, map, drop}
 use Rattle.st_table.specs.inner.Sound.{marked, path_in}
-use Rattle.st_table.specs.Sorted.{IsRising}
+use Rattle.st_order.specs.Sorted.{IsRising}
 use Rattle.st_table.proofs.device.mark.Given as goal
 
 abbrev pub invariant-loop-path : goal.invariant-loop-path

@@ -1,6 +1,6 @@
 use Rattle.std.proofs.Common.{sym, ◌∙◌}
 use Rattle.st_table.specs.declared.device.Device.{Device}
-use Rattle.st_table.proofs.Order.{none_changed}
+use Rattle.st_order.proofs.Order.{none_changed}
 use Rattle.st_table.proofs.Marks.{marked_one}
 use Rattle.st_table.specs.inner.Sound.{path_in}
 use Rattle.st_table.proofs.device.mark_one.Goals as goal

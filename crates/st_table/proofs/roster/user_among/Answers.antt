@@ -2,7 +2,7 @@ use Rattle.std.specs.Prelude.{option_map, ◌==◌}
 use Rattle.std.proofs.Common.{ap, sym, ◌∙◌}
 use Rattle.st_table.specs.Table.{TablePool}
 use Rattle.st_table.specs.inner.Sound.{table_pool}
-use Rattle.st_table.proofs.Marks.{find-map}
+use Rattle.st_order.proofs.Lists.{find-map}
 use Rattle.st_table.proofs.roster.user_among.Goals as goal
 
 pub returns-in-Some : goal.returns-in-Some

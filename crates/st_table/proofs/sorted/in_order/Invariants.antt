@@ -1,6 +1,6 @@
 use Rattle.std.proofs.Common.{◌≡◌, ◌||◌, drop}
 use Rattle.st_model.specs.Look.{Text, has_path}
-use Rattle.st_table.specs.Sorted.{IsRising}
+use Rattle.st_order.specs.Sorted.{IsRising}
 use Rattle.st_table.proofs.sorted.in_order.Given as goal
 
 abbrev pub invariant-loop-path : goal.invariant-loop-path

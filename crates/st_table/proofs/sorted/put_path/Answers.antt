@@ -2,9 +2,9 @@ use Rattle.std.proofs.Common.{◌≡◌, ◌∷◌, [], ◌||◌, Bool, true, fa
 use Rattle.std.specs.Prelude.{find}
 use Rattle.std.specs.List.{list_any}
 use Rattle.st_model.specs.Look.{Text, has_path}
-use Rattle.st_table.specs.Sorted.{IsRising, entered}
-use Rattle.st_table.proofs.Order.{eq_same, any_entered, rising_entered}
-use Rattle.st_table.proofs.Changes.{any_found}
+use Rattle.st_order.specs.Sorted.{IsRising, entered}
+use Rattle.st_order.proofs.Order.{eq_same, any_entered, rising_entered}
+use Rattle.st_order.proofs.Lists.{any_found}
 use Rattle.st_table.proofs.sorted.put_path.Goals as goal
 
 same_text : Text → Text

@@ -2,9 +2,10 @@ use Rattle.std.proofs.Common.{◌≡◌, ap, sym, ◌∙◌, subst, map, List}
 use Rattle.st_units.specs.declared.rows.DevRow.{DevRow}
 use Rattle.st_table.specs.declared.device.Device.{Device}
 use Rattle.st_table.specs.declared.pool.Pool.{Pool}
-use Rattle.st_table.specs.Sorted.{IsRising}
+use Rattle.st_order.specs.Sorted.{IsRising}
 use Rattle.st_table.specs.inner.Sound.{table_pool, row_in, path_in, IsSound}
-use Rattle.st_table.proofs.Marks.{map-map, unmarked_sound}
+use Rattle.st_order.proofs.Lists.{map-map}
+use Rattle.st_table.proofs.Marks.{unmarked_sound}
 use Rattle.st_table.proofs.roster.Roster.make.Goals as goal
 
 rises : (ds : List Device) (rows : List DevRow) → map row_in ds ≡ rows → IsRising (map (λ (row : DevRow). row.path) rows) → IsRising (map path_in ds)

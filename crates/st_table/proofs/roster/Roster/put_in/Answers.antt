@@ -4,7 +4,8 @@ use Rattle.std.proofs.Common.{◌≡◌, ap, sym, ◌∙◌, subst, map, refl, S
 use Rattle.st_table.specs.Table.{is_named, with_pool, IsFree, has_serial, knows}
 use Rattle.st_table.specs.inner.Sound.{RosterView, table_pool, row_in, marked, devices_held}
 use Rattle.st_table.proofs.Changes.{whole, pools_rise, pool_found, pool_absent, pools_more}
-use Rattle.st_table.proofs.Marks.{any-map, rows_kept, put_in}
+use Rattle.st_order.proofs.Lists.{any-map}
+use Rattle.st_table.proofs.Marks.{rows_kept, put_in}
 use Rattle.st_table.proofs.roster.Roster.put_in.Goals as goal
 
 pub search-requires : goal.search-requires

@@ -1,0 +1,3 @@
+pub mod FlexAt
+pub mod Mapped
+pub mod inner

@@ -1,0 +1,2 @@
+mod ByName
+mod Serials

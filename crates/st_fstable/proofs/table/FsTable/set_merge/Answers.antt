@@ -1,0 +1,13 @@
+use Rattle.std.proofs.Common.{refl}
+use Rattle.st_model.specs.steps.SetMerge.{with_mark}
+use Rattle.st_fstable.proofs.ByName.{set_so, set_indexed}
+use Rattle.st_fstable.proofs.table.FsTable.set_merge.Goals as goal
+
+pub invariant_of-self : goal.invariant_of-self
+invariant_of-self c =
+    set_indexed c.self.inside.rows.items c.deref.result.now c.self.inside.names.items c.place_of-i.result c.args.serial (with_mark c.args.value) c.index_mut.result.now (λ r. refl) (λ r. refl)
+    c.deref.ensures.value c.index_mut.ensures.value c.place_of-i.ensures.changed c.self.invariant
+
+pub returns : goal.returns
+returns c =
+    rw (← c.self.view_is) (set_so c.self.inside.rows.items c.deref.result.now c.place_of-i.result c.args.serial (with_mark c.args.value) c.index_mut.result.now c.deref.ensures.value c.index_mut.ensures.value c.place_of-i.ensures.changed)

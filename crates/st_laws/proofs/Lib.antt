@@ -1,0 +1,16 @@
+pub mod Blocks
+pub mod Bytes
+pub mod Destroyed
+pub mod Engine
+pub mod Examples
+pub mod False
+pub mod Merged
+pub mod Merging
+pub mod Puts
+pub mod Reading
+pub mod ReadBack
+pub mod Sectors
+pub mod Settings
+pub mod Sharing
+pub mod Snapshot
+pub mod TwoBlocks
