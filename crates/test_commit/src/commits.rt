@@ -205,8 +205,8 @@ fn a_changed_record_is_mended_or_counts_no_more(rt: HostRuntime) -> Result<(), F
     Ok(())
 }
 
-/// A commit of generation 4, with a delta or a checkpoint, that stops at a call of a device; whether it was done, and what a start
-/// finds then.
+/// A commit of generation 4, with a delta or a checkpoint, that stops at a call of a device where there are so many (the arm outlasts
+/// the cut, so one that the commit doesn't meet must lie beyond the whole test); whether it was done, and what a start finds then.
 fn stopped(
     alloc: Global,
     pick: Pick,
@@ -254,8 +254,7 @@ fn a_commit_that_stops_leaves_the_old_pool_or_the_new_one(rt: HostRuntime) -> Re
                 ("/dev/sim0", Kind::Sync, 1, false),
                 ("/dev/sim1", Kind::Write, 0, false),
                 ("/dev/sim1", Kind::Sync, 0, false),
-                ("/dev/sim0", Kind::Write, 2, true),
-                ("/dev/sim1", Kind::Sync, 1, true),
+                ("/dev/sim1", Kind::Write, 100, true),
             ] {
                 let (done, left, goes_on) = stopped(
                     alloc,
