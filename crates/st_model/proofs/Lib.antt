@@ -20,6 +20,7 @@ pub mod Lifting
 pub mod Lists
 pub mod LocalCalls
 pub mod Mapped
+pub mod Maps
 pub mod Merging
 pub mod NewPool
 pub mod OnTable
