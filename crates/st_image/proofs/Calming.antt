@@ -16,7 +16,7 @@ use Rattle.st_image.specs.Left.{first_sectors, LeftOf}
 use Rattle.st_image.specs.Looks.{look_of}
 use Rattle.st_image.specs.Bears.{newest_on, paths}
 use Rattle.st_image.specs.Stands.{Range, range_of, bytes_in, cell_rows, state_of, StandsFor}
-use Rattle.st_image.specs.Kept.{Kept, IsKeptAs, NoneOrGone, in_use, as_pair}
+use Rattle.st_image.specs.Kept.{Kept, IsKeptAs, LeftInUse, NoneOrGone, in_use, as_pair}
 use Rattle.st_image.specs.Calm.{Calm, Safe}
 use Rattle.st_model.specs.Checks.{cooled, halted_from, halted}
 use Rattle.st_model.specs.Merged.{merged}
@@ -59,7 +59,7 @@ pub calm_kept : (pool : PoolState) (devs : Devices) (rec : PoolRec) (st : FlexSt
     → Calm pool.serial (map as_pair rec.devs) pool.commits rec st s → Kept pool devs s
 calm_kept pool devs rec st s up own is calm = record {
   all = λ c leaves. (
-      let here = subst (λ (ds : Devices). LeftOf pool.serial ds s c) rows_are leaves in
+      let here = subst (λ (ds : Devices). LeftOf pool.serial ds s c) up_rows_are (subst (λ (m : PoolMode). LeftInUse (record pool { mode = m }) devs s c) up leaves) in
       let shown = calm.shows c here in
       record {
         found = Some (recorded pool);
@@ -71,8 +71,11 @@ calm_kept pool devs rec st s up own is calm = record {
       });
 }
   where
+    up_rows_are : in_use (record pool { mode = Up }) devs ≡ map as_pair rec.devs
+    up_rows_are = (λ i. in_use (record pool { mode = Up; devices = own i }) devs) ∙ end_nil (map as_pair rec.devs)
+
     rows_are : in_use pool devs ≡ map as_pair rec.devs
-    rows_are = (λ i. in_use (record pool { mode = up i; devices = own i }) devs) ∙ end_nil (map as_pair rec.devs)
+    rows_are = (λ i. in_use (record pool { mode = up i }) devs) ∙ up_rows_are
 
     recorded_is : recorded pool ≡ merged (state_of pool.commits rec st (held s))
     recorded_is = sym (merged_cooled Stopped pool) ∙ ap merged is
@@ -103,7 +106,7 @@ survives_same call pool devs found one = elim one [
 stopped_from : (pool : PoolState) (devs : Devices) (s : State) (mode : PoolMode) → pool.mode ≡ mode → Kept pool devs s → Kept (halted_from pool mode) devs s
 stopped_from pool devs s Up up kept = record {
   all = λ c leaves. (
-      let one = kept.all c (subst (λ (m : PoolMode). LeftOf pool.serial (in_use (record pool { mode = m }) devs) s c) (sym up) leaves) in
+      let one = kept.all c (subst (λ (m : PoolMode). LeftInUse (record pool { mode = m }) devs s c) (sym up) leaves) in
       let held_as : one.found ≡ Some (recorded pool) = subst (λ (m : PoolMode). IsKeptAs pool devs m one.found) up one.kept in
       record {
         found = one.found;
@@ -115,7 +118,7 @@ stopped_from pool devs s Up up kept = record {
 }
 stopped_from pool devs s (Down call) down kept = record {
   all = λ c leaves. (
-      let one = kept.all c (subst (λ (m : PoolMode). LeftOf pool.serial (in_use (record pool { mode = m }) devs) s c) (sym down) leaves) in
+      let one = kept.all c (subst (λ (m : PoolMode). LeftInUse (record pool { mode = m }) devs s c) (sym down) leaves) in
       let held_as : Survives pool call devs one.found = subst (λ (m : PoolMode). IsKeptAs pool devs m one.found) down one.kept in
       record {
         found = one.found;
