@@ -2,3 +2,4 @@ pub mod Turns
 pub mod LastLook
 pub mod Back
 pub mod Granting
+pub mod Staying

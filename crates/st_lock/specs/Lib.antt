@@ -1,5 +1,6 @@
 pub mod Opening
 pub mod Seats
 pub mod Held
+pub mod Staying
 pub mod Outcomes
 pub mod Closing

@@ -1,5 +1,6 @@
 ghost use Rattle.std.specs.Prelude.{◌≡◌, ◌≤◌, ◌<◌, ◌^◌, ◌+◌, ◌-◌, min, length, map, option_map, true, false, [], ◌∷◌, ◌++◌, Ok, Err, IfOk, IfErr, IfSome, IsSomeAnd, OnOk, OnErr, Some, None};
 ghost use Rattle.std.specs.List.{AllByRecursion};
+ghost use mathlib.Core.List.{IsPrefix};
 ghost use Rattle.st_model.specs.Parts.{pool_at, started, table_of, shown_table};
 ghost use Rattle.st_model.specs.Shown.{pool_info};
 ghost use Rattle.st_history.specs.Failures.{failures_of};
@@ -221,6 +222,7 @@ impl<C: Cell, T: Board> AllOrSome<C, T> {
     pub fn join(&self, seat: &mut Seat<C, T>, other: Seat<C, T>)
         requires here { (seat.old.turn ≡ self.now) × (other.turn ≡ self.now) }
         ensures both { seat.new ≡ lock_join seat.old other }
+        ensures seen { IsPrefix seat.old.seen seat.new.seen × IsPrefix other.seen seat.new.seen }
     {
         let Seat { seat: joined } = other;
         self.turn.join(&mut seat.seat, joined);
