@@ -2,7 +2,7 @@ ghost use Rattle.std.specs.Prelude.{◌≡◌, ◌+◌, ◌*◌, ◌<◌, ◌≤
 ghost use Rattle.st_rack.specs.Device.{Path};
 ghost use Rattle.st_units.specs.Causes.{HasCause};
 ghost use Rattle.st_rack.specs.Moments.{Keeps, Goes};
-ghost use Rattle.st_fields.specs.Slot.{padded};
+ghost use Rattle.st_fields.specs.Slot.{padded, slot_bytes};
 ghost use Rattle.st_slots.specs.Places.{Lies};
 ghost use Rattle.st_deltalog.specs.declared.area.FlexArea.{FlexArea};
 ghost use Rattle.st_deltalog.specs.Log.{Log};
@@ -11,7 +11,7 @@ ghost use Rattle.st_commit.specs.Ready.{IsOf, Ready, BearsRecord, IsSound, AreAp
 ghost use Rattle.st_commit.specs.inner.Spreading.{Spread, SpreadDone, SpreadKnown};
 
 use st_rack::{DevFault, Rack};
-use st_slots::{Area, write_next};
+use st_slots::{Area, write_next, write_synced};
 use st_units::DevList;
 
 /// Writes the pool record of a generation to each device, the first one first. The log of that generation stands already on the first
@@ -59,21 +59,23 @@ pub fn commit<R: Rack>(
     spread(rack, devs, pool, generation, rec, work)
 }
 
-/// Writes the record to each device but the first, which bears it.
+/// Writes the record to each device but the first, which bears it. `text` is its sealed text, filled up to whole sectors.
 fn spread<R: Rack>(
     rack: &mut R,
     devs: &DevList,
     pool: &Area,
     generation: u64,
     rec: &[u8],
-    work: &mut [u8],
+    text: &[u8],
 ) -> Result<(), DevFault>
     requires distinct { AreDistinct devs.now }
     requires lie { (d : Path) → IsOf devs.now d → Lies (R.devs rack.old) d pool.now }
     requires from { 1 ≤ generation }
     requires until { generation ≤ 2 ^ 48 }
     requires fits { 64 + length rec.now ≤ 512 * pool.now.slot }
-    requires room { length work.old ≡ padded (64 + length rec.now) }
+    requires small { pool.now.at + 2 * pool.now.slot ≤ 2 ^ 32 }
+    requires eight { length pool.now.magic ≡ 8 }
+    requires text { text.now ≡ slot_bytes pool.now.magic generation rec.now }
     ensures devs { R.devs rack.new ≡ R.devs rack.old }
     ensures reads { R.reads rack.new ≡ R.reads rack.old }
     ensures spare { R.spare rack.new ≡ R.spare rack.old }
@@ -83,8 +85,10 @@ fn spread<R: Rack>(
     ensures during { Spread R.moment R.state_at pool.now devs.now generation rec.now rack.old rack.new }
     ensures done { OnOk result (SpreadDone R.moment R.state_at pool.now devs.now generation rec.now (length devs.now) rack.old rack.new) }
 {
+    let _ = rec;
+    let sector = pool.at + generation % 2 * pool.slot;
     for i in 1..devs.len() {
-        write_next(rack, devs.at(i), pool, generation, rec, work)?;
+        write_synced(rack, devs.at(i), sector, text)?;
     }
     Ok(())
 }

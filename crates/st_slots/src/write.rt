@@ -15,8 +15,32 @@ use crate::spot::Area;
 use st_rack::{DevFault, Rack};
 use st_units::DevPath;
 
+/// Writes these bytes at a sector, and syncs the device.
+pub fn write_synced<R: Rack>(
+    rack: &mut R,
+    dev: &DevPath,
+    sector: u64,
+    bytes: &[u8],
+) -> Result<(), DevFault>
+    requires { IsWithin (R.devs rack.old) dev.now sector (length bytes.now) }
+
+    ensures devs { R.devs rack.new ≡ R.devs rack.old }
+    ensures reads { R.reads rack.new ≡ R.reads rack.old }
+    ensures spare { R.spare rack.new ≡ R.spare rack.old }
+    ensures cause { HasCause (R.faults rack.old) (R.faults rack.new) result }
+
+    // At each moment of the call the bytes were written and then synced, or some of that, and nothing else was done.
+    ensures time { Goes R.moment R.state_at (OnDevice dev.now (Rewriting (512 * sector) bytes.now)) rack.old rack.new }
+
+    // After an `Ok` they were written and synced.
+    ensures done { OnOk result (OnDevice dev.now (Rewritten (512 * sector) bytes.now) (R.state_at rack.old (R.moment rack.old)) (R.state_at rack.new (R.moment rack.new))) }
+{
+    rack.write(dev, sector, bytes)?;
+    rack.sync(dev)
+}
+
 /// Writes the sealed text of a generation and a body at a sector, filled up to whole sectors, and syncs the device. `work` is a buffer
-/// of so many bytes.
+/// of so many bytes, and holds what was written afterwards.
 pub fn write_sealed<R: Rack>(
     rack: &mut R,
     dev: &DevPath,
@@ -34,6 +58,7 @@ pub fn write_sealed<R: Rack>(
     ensures spare { R.spare rack.new ≡ R.spare rack.old }
     ensures cause { HasCause (R.faults rack.old) (R.faults rack.new) result }
     ensures eight { length magic.now ≡ 8 }
+    ensures text { work.new ≡ slot_bytes magic.now generation body.now }
 
     // At each moment of the call the bytes were written and then synced, or some of that, and nothing else was done.
     ensures time { Goes R.moment R.state_at (OnDevice dev.now (Rewriting (512 * sector) (slot_bytes magic.now generation body.now))) rack.old rack.new }
@@ -42,12 +67,11 @@ pub fn write_sealed<R: Rack>(
     ensures done { OnOk result (OnDevice dev.now (Rewritten (512 * sector) (slot_bytes magic.now generation body.now)) (R.state_at rack.old (R.moment rack.old)) (R.state_at rack.new (R.moment rack.new))) }
 {
     fill(work, magic, generation, body);
-    rack.write(dev, sector, work)?;
-    rack.sync(dev)
+    write_synced(rack, dev, sector, work)
 }
 
 /// Writes a record of any generation into the slot in this place, 0 or 1, and syncs the device. `work` is a buffer of the slot's text,
-/// filled up to whole sectors.
+/// filled up to whole sectors, and holds it afterwards.
 pub fn write_at<R: Rack>(
     rack: &mut R,
     dev: &DevPath,
@@ -69,6 +93,7 @@ pub fn write_at<R: Rack>(
     ensures spare { R.spare rack.new ≡ R.spare rack.old }
     ensures cause { HasCause (R.faults rack.old) (R.faults rack.new) result }
     ensures eight { length area.now.magic ≡ 8 }
+    ensures text { work.new ≡ slot_bytes area.now.magic generation body.now }
 
     // At each moment of the call the slot's bytes were written and then synced, or some of that, and nothing else was done.
     ensures time { Goes R.moment R.state_at (OnDevice dev.now (Rewriting (place_at area.now slot) (slot_bytes area.now.magic generation body.now))) rack.old rack.new }
@@ -93,7 +118,7 @@ pub fn write_at<R: Rack>(
 }
 
 /// Writes a record into the slot of its generation, and syncs the device. `work` is a buffer of the slot's text, filled up to whole
-/// sectors.
+/// sectors, and holds it afterwards.
 pub fn write_next<R: Rack>(
     rack: &mut R,
     dev: &DevPath,
@@ -113,6 +138,7 @@ pub fn write_next<R: Rack>(
     ensures spare { R.spare rack.new ≡ R.spare rack.old }
     ensures cause { HasCause (R.faults rack.old) (R.faults rack.new) result }
     ensures eight { length area.now.magic ≡ 8 }
+    ensures text { work.new ≡ slot_bytes area.now.magic generation body.now }
 
     // At each moment of the call the slot's bytes were written and then synced, or some of that, and nothing else was done.
     ensures time { Goes R.moment R.state_at (OnDevice dev.now (Rewriting (slot_at area.now generation) (slot_bytes area.now.magic generation body.now))) rack.old rack.new }

@@ -19,6 +19,9 @@ small_of lies = omega (arith, lies.small)
 pub returns-in_err-write_next-clause-spares : goal.returns-in_err-write_next-clause-spares
 returns-in_err-write_next-clause-spares g c = write_spares g.R.Rack.moment g.R.Rack.state_at c.args.pool.now c.args.devs.now c.args.generation c.args.rec.now c.at.result.now c.args.rack.now c.write_next.new.rack c.write_next.ensures.eight c.requires.from c.requires.until (small_of (c.requires.lie c.at.result.now (record { index = 0; is = c.at.ensures }))) c.requires.fits (record { index = 0; is = c.at.ensures }) c.write_next.ensures.time
 
+pub spread-requires-clause-small : goal.spread-requires-clause-small
+spread-requires-clause-small g c = (c.requires.lie c.at.result.now (record { index = 0; is = c.at.ensures })).small
+
 pub returns-clause-spares : goal.returns-clause-spares
 returns-clause-spares g c =
     spares_on c.args.pool.now c.args.generation c.args.devs.now g.R.Rack.moment g.R.Rack.state_at c.args.rack.now c.write_next.new.rack c.spread.new.rack

@@ -1,11 +1,17 @@
-use Rattle.std.proofs.Common.{◌≡◌, ◌≢◌, inl, inr, ◌≤◌, ◌^◌, ℕ, List, Some, refl, sym, ◌∙◌, ap, subst, arith}
+use Rattle.std.proofs.Common.{◌≡◌, ◌≢◌, inl, inr, ◌≤◌, ◌+◌, ◌*◌, ◌%◌, ◌^◌, ℕ, length, List, Some, refl, sym, ◌∙◌, ap, subst, arith}
+use Rattle.std.proofs.Math.Nat.{mul-le-mul_right}
 use Rattle.std.specs.List.{slice_get}
 use Rattle.std.proofs.lemmas.Bool.{cases_lt}
-use Rattle.st_rack.specs.Device.{Path}
+use Rattle.st_fields.specs.Slot.{slot_bytes}
+use Rattle.st_rack.specs.Device.{Path, State}
+use Rattle.st_rack.specs.Moments.{Goes, OnDevice}
+use Rattle.st_rack.specs.Steps.{Rewriting, Rewritten}
 use Rattle.st_rack.specs.Calls.{Devices}
 use Rattle.st_rack.proofs.Moments.{keeps_on, keeps_self}
-use Rattle.st_slots.specs.Places.{Lies}
+use Rattle.st_slots.specs.Places.{Lies, slot_at}
 use Rattle.st_slots.specs.declared.spot.Area.{Area}
+use Rattle.st_slots.proofs.Running.{sector_within}
+use Rattle.st_slots.proofs.Texts.{length-slot_bytes}
 use Rattle.st_commit.specs.Standing.{Only, standing_of}
 use Rattle.st_commit.specs.Ready.{BearsRecord, NoOther}
 use Rattle.st_commit.proofs.Steps.{certain}
@@ -23,6 +29,29 @@ some_inj a b e = cc
 
 small_of : {devs : Devices} {d : Path} {pool : Area} → Lies devs d pool → pool.slot ≤ 2 ^ 32
 small_of lies = omega (arith, lies.small)
+
+-- what was written, and what is being written, is the text
+told : {D : Type 0} (M : D → ℕ) (S : D → ℕ → State) (dev : Path) (at : ℕ) (old new : D) (text bytes : List ℕ) → text ≡ bytes → Goes M S (OnDevice dev (Rewriting at text)) old new → Goes M S (OnDevice dev (Rewriting at bytes)) old new
+told M S dev at old new text bytes e run = subst (λ (b : List ℕ). Goes M S (OnDevice dev (Rewriting at b)) old new) e run
+
+wrote : (at : ℕ) (dev : Path) (old new : State) (text bytes : List ℕ) → text ≡ bytes → OnDevice dev (Rewritten at text) old new → OnDevice dev (Rewritten at bytes) old new
+wrote at dev old new text bytes e done = subst (λ (b : List ℕ). OnDevice dev (Rewritten at b) old new) e done
+
+pub overflow_add-sector : goal.overflow_add-sector
+overflow_add-sector g c =
+    let le : c.args.generation % 2 ≤ 1 = omega arith in
+    let half = mul-le-mul_right c.args.pool.now.slot le in
+    omega (arith, half, c.requires.small)
+
+pub write_synced-requires : goal.write_synced-requires
+write_synced-requires g c =
+    let pool = c.args.pool.now in
+    let G = c.args.generation in
+    let rec = c.args.rec.now in
+    let dev = c.at.result.now in
+    let lies = subst (λ (all : Devices). Lies all dev pool) (sym c.loop-i.invariant.devs) (c.requires.lie dev (record { index = c.loop-i.i; is = c.at.ensures })) in
+    sector_within (g.R.Rack.devs c.loop-i.rack) dev pool (G % 2) (64 + length rec) (length c.args.text.now) lies (omega arith) c.requires.fits (omega arith)
+    (ap (λ (b : List ℕ). length b) c.requires.text ∙ length-slot_bytes pool.magic rec G c.requires.eight)
 
 pub loop-i-init : goal.loop-i-init
 loop-i-init g c =
@@ -55,26 +84,26 @@ loop-i-init g c =
       );
     }
 
-pub returns-in_err-write_next-clause-spares : goal.returns-in_err-write_next-clause-spares
-returns-in_err-write_next-clause-spares g c =
-    spares_on c.args.pool.now c.args.generation c.args.devs.now g.R.Rack.moment g.R.Rack.state_at c.args.rack.now c.loop-i.rack c.write_next.new.rack c.loop-i.invariant.spares
-    (write_spares g.R.Rack.moment g.R.Rack.state_at c.args.pool.now c.args.devs.now c.args.generation c.args.rec.now c.at.result.now c.loop-i.rack c.write_next.new.rack c.write_next.ensures.eight c.requires.from c.requires.until (small_of (c.requires.lie c.at.result.now (record { index = c.loop-i.i; is = c.at.ensures }))) c.requires.fits (record { index = c.loop-i.i; is = c.at.ensures }) c.write_next.ensures.time)
+pub returns-in_err-write_synced-clause-spares : goal.returns-in_err-write_synced-clause-spares
+returns-in_err-write_synced-clause-spares g c =
+    spares_on c.args.pool.now c.args.generation c.args.devs.now g.R.Rack.moment g.R.Rack.state_at c.args.rack.now c.loop-i.rack c.write_synced.new.rack c.loop-i.invariant.spares
+    (write_spares g.R.Rack.moment g.R.Rack.state_at c.args.pool.now c.args.devs.now c.args.generation c.args.rec.now c.at.result.now c.loop-i.rack c.write_synced.new.rack c.requires.eight c.requires.from c.requires.until (small_of (c.requires.lie c.at.result.now (record { index = c.loop-i.i; is = c.at.ensures }))) c.requires.fits (record { index = c.loop-i.i; is = c.at.ensures }) (told g.R.Rack.moment g.R.Rack.state_at c.at.result.now (slot_at c.args.pool.now c.args.generation) c.loop-i.rack c.write_synced.new.rack c.args.text.now (slot_bytes c.args.pool.now.magic c.args.generation c.args.rec.now) c.requires.text c.write_synced.ensures.time))
 
-pub returns-in_err-write_next-clause-others : goal.returns-in_err-write_next-clause-others
-returns-in_err-write_next-clause-others g c =
-    λ start known. keeps_on g.R.Rack.moment g.R.Rack.state_at (NoOther c.args.pool.now c.args.devs.now c.args.generation c.args.rec.now start) c.args.rack.now c.loop-i.rack c.write_next.new.rack
-    (c.loop-i.invariant.others start known) (write_known g.R.Rack.moment g.R.Rack.state_at c.args.pool.now c.args.devs.now c.args.generation c.args.rec.now c.at.result.now c.loop-i.rack c.write_next.new.rack c.write_next.ensures.eight c.requires.from c.requires.until (small_of (c.requires.lie c.at.result.now (record { index = c.loop-i.i; is = c.at.ensures }))) c.requires.fits c.write_next.ensures.time start (c.loop-i.invariant.known start known))
+pub returns-in_err-write_synced-clause-others : goal.returns-in_err-write_synced-clause-others
+returns-in_err-write_synced-clause-others g c =
+    λ start known. keeps_on g.R.Rack.moment g.R.Rack.state_at (NoOther c.args.pool.now c.args.devs.now c.args.generation c.args.rec.now start) c.args.rack.now c.loop-i.rack c.write_synced.new.rack
+    (c.loop-i.invariant.others start known) (write_known g.R.Rack.moment g.R.Rack.state_at c.args.pool.now c.args.devs.now c.args.generation c.args.rec.now c.at.result.now c.loop-i.rack c.write_synced.new.rack c.requires.eight c.requires.from c.requires.until (small_of (c.requires.lie c.at.result.now (record { index = c.loop-i.i; is = c.at.ensures }))) c.requires.fits (told g.R.Rack.moment g.R.Rack.state_at c.at.result.now (slot_at c.args.pool.now c.args.generation) c.loop-i.rack c.write_synced.new.rack c.args.text.now (slot_bytes c.args.pool.now.magic c.args.generation c.args.rec.now) c.requires.text c.write_synced.ensures.time) start (c.loop-i.invariant.known start known))
 
-pub returns-in_err-write_next-clause-during : goal.returns-in_err-write_next-clause-during
-returns-in_err-write_next-clause-during g c =
+pub returns-in_err-write_synced-clause-during : goal.returns-in_err-write_synced-clause-during
+returns-in_err-write_synced-clause-during g c =
     let i = c.loop-i.i in
     let low : 1 ≤ i = omega arith in
     λ flex p up h first log sound head is ready.
     let now = (c.loop-i.invariant.done flex p up h first log sound head is ready).0 in
     let ne : c.at.result.now ≢ first = (λ e. not_first i low (c.requires.distinct i 0 first (c.at.ensures ∙ ap (λ (q : Path). Some q) e) head)) in
-    keeps_on g.R.Rack.moment g.R.Rack.state_at (Only c.args.pool.now flex p c.args.devs.now first (standing_of c.args.generation c.args.rec.now (Some log))) c.args.rack.now c.loop-i.rack c.write_next.new.rack
+    keeps_on g.R.Rack.moment g.R.Rack.state_at (Only c.args.pool.now flex p c.args.devs.now first (standing_of c.args.generation c.args.rec.now (Some log))) c.args.rack.now c.loop-i.rack c.write_synced.new.rack
     (c.loop-i.invariant.during flex p up h first log sound head is ready)
-    (write_other g.R.Rack.moment g.R.Rack.state_at c.args.pool.now c.args.devs.now c.args.generation c.args.rec.now c.at.result.now c.loop-i.rack c.write_next.new.rack c.write_next.ensures.eight c.requires.from c.requires.until (small_of (c.requires.lie c.at.result.now (record { index = c.loop-i.i; is = c.at.ensures }))) c.requires.fits flex p up h first log sound head is ne now c.write_next.ensures.time)
+    (write_other g.R.Rack.moment g.R.Rack.state_at c.args.pool.now c.args.devs.now c.args.generation c.args.rec.now c.at.result.now c.loop-i.rack c.write_synced.new.rack c.requires.eight c.requires.from c.requires.until (small_of (c.requires.lie c.at.result.now (record { index = c.loop-i.i; is = c.at.ensures }))) c.requires.fits flex p up h first log sound head is ne now (told g.R.Rack.moment g.R.Rack.state_at c.at.result.now (slot_at c.args.pool.now c.args.generation) c.loop-i.rack c.write_synced.new.rack c.args.text.now (slot_bytes c.args.pool.now.magic c.args.generation c.args.rec.now) c.requires.text c.write_synced.ensures.time))
 
 pub loop-i-preserved : goal.loop-i-preserved
 loop-i-preserved g c =
@@ -89,33 +118,33 @@ loop-i-preserved g c =
     let low : 1 ≤ i = omega arith in
     let r0 = c.args.rack.now in
     let r1 = c.loop-i.rack in
-    let r2 = c.write_next.new.rack in
-    let run = c.write_next.ensures.time in
-    let done = c.in_ok-write_next.ensures.done in
+    let r2 = c.write_synced.new.rack in
+    let run = told M S dev (slot_at pool G) r1 r2 c.args.text.now (slot_bytes pool.magic G rec) c.requires.text c.write_synced.ensures.time in
+    let done = wrote (slot_at pool G) dev (S r1 (M r1)) (S r2 (M r2)) c.args.text.now (slot_bytes pool.magic G rec) c.requires.text c.in_ok-write_synced.ensures.done in
     record {
-      devs = c.write_next.ensures.devs ∙ c.loop-i.invariant.devs;
-      reads = c.write_next.ensures.reads ∙ c.loop-i.invariant.reads;
-      spare = c.write_next.ensures.spare ∙ c.loop-i.invariant.spare;
-      faults = omega (arith, c.loop-i.invariant.faults, c.write_next.ensures.cause.later);
-      spares = spares_on pool G devs M S r0 r1 r2 c.loop-i.invariant.spares (write_spares g.R.Rack.moment g.R.Rack.state_at c.args.pool.now c.args.devs.now c.args.generation c.args.rec.now c.at.result.now c.loop-i.rack c.write_next.new.rack c.write_next.ensures.eight c.requires.from c.requires.until (small_of (c.requires.lie c.at.result.now (record { index = c.loop-i.i; is = c.at.ensures }))) c.requires.fits (record { index = i; is = c.at.ensures }) run);
+      devs = c.write_synced.ensures.devs ∙ c.loop-i.invariant.devs;
+      reads = c.write_synced.ensures.reads ∙ c.loop-i.invariant.reads;
+      spare = c.write_synced.ensures.spare ∙ c.loop-i.invariant.spare;
+      faults = omega (arith, c.loop-i.invariant.faults, c.write_synced.ensures.cause.later);
+      spares = spares_on pool G devs M S r0 r1 r2 c.loop-i.invariant.spares (write_spares g.R.Rack.moment g.R.Rack.state_at c.args.pool.now c.args.devs.now c.args.generation c.args.rec.now c.at.result.now c.loop-i.rack c.write_synced.new.rack c.requires.eight c.requires.from c.requires.until (small_of (c.requires.lie c.at.result.now (record { index = c.loop-i.i; is = c.at.ensures }))) c.requires.fits (record { index = i; is = c.at.ensures }) run);
       others = λ start known. keeps_on M S (NoOther pool devs G rec start) r0 r1 r2 (c.loop-i.invariant.others start known)
-          (write_known g.R.Rack.moment g.R.Rack.state_at c.args.pool.now c.args.devs.now c.args.generation c.args.rec.now c.at.result.now c.loop-i.rack c.write_next.new.rack c.write_next.ensures.eight c.requires.from c.requires.until (small_of (c.requires.lie c.at.result.now (record { index = c.loop-i.i; is = c.at.ensures }))) c.requires.fits run start (c.loop-i.invariant.known start known));
-      known = λ start known. write_known_done g.R.Rack.moment g.R.Rack.state_at c.args.pool.now c.args.devs.now c.args.generation c.args.rec.now c.at.result.now c.loop-i.rack c.write_next.new.rack c.write_next.ensures.eight c.requires.from c.requires.until (small_of (c.requires.lie c.at.result.now (record { index = c.loop-i.i; is = c.at.ensures }))) c.requires.fits done start (c.loop-i.invariant.known start known);
+          (write_known g.R.Rack.moment g.R.Rack.state_at c.args.pool.now c.args.devs.now c.args.generation c.args.rec.now c.at.result.now c.loop-i.rack c.write_synced.new.rack c.requires.eight c.requires.from c.requires.until (small_of (c.requires.lie c.at.result.now (record { index = c.loop-i.i; is = c.at.ensures }))) c.requires.fits run start (c.loop-i.invariant.known start known));
+      known = λ start known. write_known_done g.R.Rack.moment g.R.Rack.state_at c.args.pool.now c.args.devs.now c.args.generation c.args.rec.now c.at.result.now c.loop-i.rack c.write_synced.new.rack c.requires.eight c.requires.from c.requires.until (small_of (c.requires.lie c.at.result.now (record { index = c.loop-i.i; is = c.at.ensures }))) c.requires.fits done start (c.loop-i.invariant.known start known);
       during = λ flex p up h first log sound head is ready.
           let now = (c.loop-i.invariant.done flex p up h first log sound head is ready).0 in
           let ne : dev ≢ first = (λ e. not_first i low (c.requires.distinct i 0 first (c.at.ensures ∙ ap (λ (q : Path). Some q) e) head)) in
           keeps_on M S (Only pool flex p devs first (standing_of G rec (Some log))) r0 r1 r2 (c.loop-i.invariant.during flex p up h first log sound head is ready)
-          (write_other g.R.Rack.moment g.R.Rack.state_at c.args.pool.now c.args.devs.now c.args.generation c.args.rec.now c.at.result.now c.loop-i.rack c.write_next.new.rack c.write_next.ensures.eight c.requires.from c.requires.until (small_of (c.requires.lie c.at.result.now (record { index = c.loop-i.i; is = c.at.ensures }))) c.requires.fits flex p up h first log sound head is ne now run);
+          (write_other g.R.Rack.moment g.R.Rack.state_at c.args.pool.now c.args.devs.now c.args.generation c.args.rec.now c.at.result.now c.loop-i.rack c.write_synced.new.rack c.requires.eight c.requires.from c.requires.until (small_of (c.requires.lie c.at.result.now (record { index = c.loop-i.i; is = c.at.ensures }))) c.requires.fits flex p up h first log sound head is ne now run);
       done = λ flex p up h first log sound head is ready.
           let before = c.loop-i.invariant.done flex p up h first log sound head is ready in
           let ne : dev ≢ first = (λ e. not_first i low (c.requires.distinct i 0 first (c.at.ensures ∙ ap (λ (q : Path). Some q) e) head)) in (
-            write_other_ready g.R.Rack.moment g.R.Rack.state_at c.args.pool.now c.args.devs.now c.args.generation c.args.rec.now c.at.result.now c.loop-i.rack c.write_next.new.rack c.write_next.ensures.eight c.requires.from c.requires.until (small_of (c.requires.lie c.at.result.now (record { index = c.loop-i.i; is = c.at.ensures }))) c.requires.fits flex p up h first log sound head is ne before.0 done,
+            write_other_ready g.R.Rack.moment g.R.Rack.state_at c.args.pool.now c.args.devs.now c.args.generation c.args.rec.now c.at.result.now c.loop-i.rack c.write_synced.new.rack c.requires.eight c.requires.from c.requires.until (small_of (c.requires.lie c.at.result.now (record { index = c.loop-i.i; is = c.at.ensures }))) c.requires.fits flex p up h first log sound head is ne before.0 done,
             λ j d lt there. elim (cases_lt j i) [
-              | inl below ↦ write_other_stays g.R.Rack.moment g.R.Rack.state_at c.args.pool.now c.args.devs.now c.args.generation c.args.rec.now c.at.result.now c.loop-i.rack c.write_next.new.rack c.write_next.ensures.eight c.requires.from c.requires.until (small_of (c.requires.lie c.at.result.now (record { index = c.loop-i.i; is = c.at.ensures }))) c.requires.fits flex p up h first log sound head is ne before.0 done d (before.1 j d below there)
+              | inl below ↦ write_other_stays g.R.Rack.moment g.R.Rack.state_at c.args.pool.now c.args.devs.now c.args.generation c.args.rec.now c.at.result.now c.loop-i.rack c.write_synced.new.rack c.requires.eight c.requires.from c.requires.until (small_of (c.requires.lie c.at.result.now (record { index = c.loop-i.i; is = c.at.ensures }))) c.requires.fits flex p up h first log sound head is ne before.0 done d (before.1 j d below there)
               | inr from ↦
                   let here : i ≡ j = omega (arith, lt, from) in
                   let e : dev ≡ d = some_inj dev d (sym c.at.ensures ∙ ap (slice_get devs) here ∙ there) in
-                  subst (λ (q : Path). BearsRecord pool G rec (S r2 (M r2) q)) e (write_other_bears g.R.Rack.moment g.R.Rack.state_at c.args.pool.now c.args.devs.now c.args.generation c.args.rec.now c.at.result.now c.loop-i.rack c.write_next.new.rack c.write_next.ensures.eight c.requires.from c.requires.until (small_of (c.requires.lie c.at.result.now (record { index = c.loop-i.i; is = c.at.ensures }))) c.requires.fits flex p up h first log sound head is ne before.0 done)
+                  subst (λ (q : Path). BearsRecord pool G rec (S r2 (M r2) q)) e (write_other_bears g.R.Rack.moment g.R.Rack.state_at c.args.pool.now c.args.devs.now c.args.generation c.args.rec.now c.at.result.now c.loop-i.rack c.write_synced.new.rack c.requires.eight c.requires.from c.requires.until (small_of (c.requires.lie c.at.result.now (record { index = c.loop-i.i; is = c.at.ensures }))) c.requires.fits flex p up h first log sound head is ne before.0 done)
             ],
           );
     }
