@@ -1,0 +1,16 @@
+use Rattle.std.proofs.Common.{◌≡◌, ◌≤◌}
+use Rattle.st_rack.specs.Moments.{Goes}
+use Rattle.st_books.specs.Ready.{rows_of}
+use Rattle.st_making.specs.inner.Heading.{AllHeading}
+use Rattle.st_making.proofs.Heading.{Begun}
+use Rattle.st_making.proofs.headers.write_headers.Given as goal
+
+abbrev pub invariant-loop-i : goal.invariant-loop-i
+invariant-loop-i g l = record {
+  devs : g.R.Rack.devs l.rack ≡ g.R.Rack.devs l.fn.rack;
+  reads : g.R.Rack.reads l.rack ≡ g.R.Rack.reads l.fn.rack;
+  spare : g.R.Rack.spare l.rack ≡ g.R.Rack.spare l.fn.rack;
+  faults : g.R.Rack.faults l.fn.rack ≤ g.R.Rack.faults l.rack;
+  time : Goes g.R.Rack.moment g.R.Rack.state_at (AllHeading l.rec.serial (rows_of l.rec)) l.fn.rack l.rack;
+  begun : Begun l.rec.serial (rows_of l.rec) l.i (g.R.Rack.state_at l.fn.rack (g.R.Rack.moment l.fn.rack)) (g.R.Rack.state_at l.rack (g.R.Rack.moment l.rack));
+}
