@@ -1,0 +1,3 @@
+mod Filesystems
+pub mod Places
+pub mod Rows
