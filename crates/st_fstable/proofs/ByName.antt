@@ -2,106 +2,44 @@
 use Rattle.std.proofs.Common.{◌≡◌, ℕ, ◌<◌, insert, remove, get_or, set, List, [], ◌∷◌, Bool, true, false, cond, not, ◌||◌, eqb, bytes_eq, map, Some, None, is_some, refl, sym, ap, subst, ◌∙◌}
 use Rattle.std.specs.Prelude.{find, filter, option_map}
 use Rattle.std.specs.List.{AllByRecursion, list_any}
-use Rattle.std.specs.Ordering.{is_lt, ordering_reverse}
-use Rattle.std.proofs.lemmas.Cmp.{nat_list_cmp_total}
 use Rattle.std.proofs.lemmas.Bool.Decides.{Decides-eqb}
 use Rattle.st_units.specs.declared.rows.FsRow.{FsRow}
-use Rattle.st_order.specs.Sorted.{Text, is_below, IsRising, entered}
+use Rattle.st_order.specs.Sorted.{Text, is_below, IsRising, entered, ordered}
 use Rattle.st_order.proofs.Order.{text_cmp, eq_same, eq_self, eq_turned, less_of, other_way, rising_none, rising_entered, filter_none, any_entered, all_entered, all_filtered, find_none}
+use Rattle.st_order.proofs.Ordered.{any_ordered, all_ordered, find_entered, either_first}
 use Rattle.st_order.proofs.Lists.{any_found, any_less, found_passes, or_first, or_second, weaker}
 use Rattle.st_model.specs.Merged.{is_origin}
 use Rattle.st_fstable.specs.Rows.{AreApart, AreRows, has_serial, has_name, row_at, serial_of, is_there, is_called, without, changed, passed_on, passed_by}
-use Rattle.st_fstable.specs.inner.ByName.{name_of, serial_in, by_name, name_at, name_or_none, IsIndexed}
+use Rattle.st_fstable.specs.inner.ByName.{name_of, serial_in, name_at, name_or_none, IsIndexed}
 use Rattle.st_fstable.proofs.Serials.{apart_filtered, no_serial_after, no_name_after, unequal_back, unnamed, itself}
-
--- ---- two rows are put in, whichever comes first
-
-below_turned : (a b : Text) → is_below a b ≡ true → is_below b a ≡ false
-below_turned a b h = ap is_lt (nat_list_cmp_total.antisymm b a ∙ ap ordering_reverse (less_of (text_cmp a b) h))
-
-one_way : (a b : Text) → bytes_eq a b ≡ false → is_below b a ≡ not (is_below a b)
-one_way a b apart = here (is_below a b) refl
-  where
-    here : (v : Bool) → is_below a b ≡ v → is_below b a ≡ not v
-    here true h = below_turned a b h
-    here false h = ap is_lt (other_way a b h apart)
-
--- what is above x is above what isn't
-between : (x a b : Text) → is_below x a ≡ true → is_below x b ≡ false → is_below b a ≡ true
-between x a b low high = here (bytes_eq x b) refl
-  where
-    here : (e : Bool) → bytes_eq x b ≡ e → is_below b a ≡ true
-    here true e = subst (λ t. is_below t a ≡ true) (eq_same x b e) low
-    here false e = ap is_lt (nat_list_cmp_total.trans b x a (other_way x b high e) (less_of (text_cmp x a) low))
-
-module _ (a b : FsRow) (apart : bytes_eq a.name b.name ≡ false) where
-  before : (rest : List FsRow) (v : Bool) → cond (not v) (b ∷ a ∷ rest) (a ∷ b ∷ rest) ≡ cond v (a ∷ b ∷ rest) (b ∷ a ∷ rest)
-  before rest true = refl
-  before rest false = refl
-
-  step : (x : FsRow) (xs : List FsRow) → entered name_of a (entered name_of b xs) ≡ entered name_of b (entered name_of a xs)
-      → (p : Bool) → is_below x.name a.name ≡ p → (q : Bool) → is_below x.name b.name ≡ q
-      → entered name_of a (cond q (x ∷ entered name_of b xs) (b ∷ x ∷ xs)) ≡ entered name_of b (cond p (x ∷ entered name_of a xs) (a ∷ x ∷ xs))
-  step x xs rest true p true q = rw (p, q) (ap (λ ys. x ∷ ys) rest)
-  step x xs rest true p false q = let k : is_below b.name a.name ≡ true = between x.name a.name b.name p q in rw (k, p, q) refl
-  step x xs rest false p true q = let k : is_below a.name b.name ≡ true = between x.name b.name a.name q p in rw (k, p, q) refl
-  step x xs rest false p false q = let k : is_below b.name a.name ≡ not (is_below a.name b.name) = one_way a.name b.name apart in rw (k, p, q) (before (x ∷ xs) (is_below a.name b.name))
-
-  pub either_first : (xs : List FsRow) → entered name_of a (entered name_of b xs) ≡ entered name_of b (entered name_of a xs)
-  either_first [] = let k : is_below b.name a.name ≡ not (is_below a.name b.name) = one_way a.name b.name apart in rw k (before [] (is_below a.name b.name))
-  either_first (x ∷ xs) = step x xs (either_first xs) (is_below x.name a.name) refl (is_below x.name b.name) refl
 
 -- ---- the rows by name
 
-pub all_by_name : (P : FsRow → Type 0) (rows : List FsRow) → AllByRecursion P rows → AllByRecursion P (by_name rows)
-all_by_name P [] h = tt
-all_by_name P (x ∷ xs) h = all_entered name_of P x (by_name xs) h.0 (all_by_name P xs h.1)
-
-pub any_by_name : (p : FsRow → Bool) (rows : List FsRow) → list_any p (by_name rows) ≡ list_any p rows
-any_by_name p [] = refl
-any_by_name p (x ∷ xs) = any_entered name_of p x (by_name xs) ∙ ap (λ b. p x || b) (any_by_name p xs)
-
-pub names_rise : (rows : List FsRow) → AreRows rows → IsRising (map name_of (by_name rows))
+pub names_rise : (rows : List FsRow) → AreRows rows → IsRising (map name_of (ordered name_of rows))
 names_rise [] h = rising_none name_of
-names_rise (x ∷ xs) h = rising_entered name_of x (by_name xs) (names_rise xs h.1) (any_by_name (has_name x.name) xs ∙ no_name_after x xs h.0)
+names_rise (x ∷ xs) h = rising_entered name_of x (ordered name_of xs) (names_rise xs h.1) (any_ordered name_of (has_name x.name) xs ∙ no_name_after x xs h.0)
 
-find_entered : (p : FsRow → Bool) (y : FsRow) (xs : List FsRow) → (p y ≡ true → list_any p xs ≡ false) → find p (entered name_of y xs) ≡ cond (p y) (Some y) (find p xs)
-find_entered p y [] only = refl
-find_entered p y (x ∷ xs) only = here (p y) refl (is_below x.name y.name) (find_entered p y xs)
-  where
-    here : (b : Bool) → p y ≡ b → (c : Bool) → ((p y ≡ true → list_any p xs ≡ false) → find p (entered name_of y xs) ≡ cond (p y) (Some y) (find p xs)) → find p (cond c (x ∷ entered name_of y xs) (y ∷ x ∷ xs)) ≡ cond b (Some y) (cond (p x) (Some x) (find p xs))
-    here true e false inner = rw e refl
-    here false e false inner = rw e refl
-    here true e true inner =
-        let out = only e in
-        let first : p x ≡ false = or_first (p x) (list_any p xs) out in
-        let rest : find p (entered name_of y xs) ≡ cond (p y) (Some y) (find p xs) = inner (λ k. or_second (p x) (list_any p xs) out) in
-        rw (first, rest, e) refl
-    here false e true inner =
-        let rest : find p (entered name_of y xs) ≡ cond (p y) (Some y) (find p xs) = inner (λ k. absurd cc) in
-        rw (rest, e) refl
-
-pub found_by_name : (name : Text) (rows : List FsRow) → AreRows rows → find (has_name name) (by_name rows) ≡ find (has_name name) rows
+pub found_by_name : (name : Text) (rows : List FsRow) → AreRows rows → find (has_name name) (ordered name_of rows) ≡ find (has_name name) rows
 found_by_name name [] h = refl
 found_by_name name (x ∷ xs) h =
-    find_entered (has_name name) x (by_name xs) (λ e. any_by_name (has_name name) xs ∙ subst (λ n. is_called n xs ≡ false) (eq_same x.name name e) (no_name_after x xs h.0))
+    find_entered name_of (has_name name) x (ordered name_of xs) (λ e. any_ordered name_of (has_name name) xs ∙ subst (λ n. is_called n xs ≡ false) (eq_same x.name name e) (no_name_after x xs h.0))
     ∙ ap (λ o. cond (has_name name x) (Some x) o) (found_by_name name xs h.1)
 
 -- the row of a serial stands where its name belongs among the others
-pub one_more : (serial : ℕ) (row : FsRow) (rows : List FsRow) → AreRows rows → row_at serial rows ≡ Some row → by_name rows ≡ entered name_of row (by_name (without serial rows))
+pub one_more : (serial : ℕ) (row : FsRow) (rows : List FsRow) → AreRows rows → row_at serial rows ≡ Some row → ordered name_of rows ≡ entered name_of row (ordered name_of (without serial rows))
 one_more serial row [] h found = absurd cc
 one_more serial row (x ∷ xs) h found = here (has_serial serial x) refl found (one_more serial row xs h.1)
   where
-    here : (b : Bool) → has_serial serial x ≡ b → cond b (Some x) (row_at serial xs) ≡ Some row → (row_at serial xs ≡ Some row → by_name xs ≡ entered name_of row (by_name (without serial xs))) → entered name_of x (by_name xs) ≡ entered name_of row (by_name (cond (not b) (x ∷ without serial xs) (without serial xs)))
+    here : (b : Bool) → has_serial serial x ≡ b → cond b (Some x) (row_at serial xs) ≡ Some row → (row_at serial xs ≡ Some row → ordered name_of xs ≡ entered name_of row (ordered name_of (without serial xs))) → entered name_of x (ordered name_of xs) ≡ entered name_of row (ordered name_of (cond (not b) (x ∷ without serial xs) (without serial xs)))
     here true e k rest =
         let same : x ≡ row = cc in
         let s : x.serial ≡ serial = (Decides-eqb x.serial serial).0 e in
         let none : is_there serial xs ≡ false = subst (λ n. is_there n xs ≡ false) s (no_serial_after x xs h.0) in
-        ap (λ (y : FsRow). entered name_of y (by_name xs)) same ∙ ap (λ ys. entered name_of row (by_name ys)) (sym (filter_none name_of (has_serial serial) xs none))
+        ap (λ (y : FsRow). entered name_of y (ordered name_of xs)) same ∙ ap (λ ys. entered name_of row (ordered name_of ys)) (sym (filter_none name_of (has_serial serial) xs none))
     here false e k rest =
         let after : AreApart x row = (found_passes (has_serial serial) (AreApart x) xs row h.0 k).1 in
         let apart : bytes_eq x.name row.name ≡ false = eq_turned x.name row.name ∙ unnamed x.name row.name after.names in
-        ap (entered name_of x) (rest k) ∙ either_first x row apart (by_name (without serial xs))
+        ap (entered name_of x) (rest k) ∙ either_first name_of x row apart (ordered name_of (without serial xs))
 
 -- and no other has its name
 pub name_alone : (serial : ℕ) (row : FsRow) (rows : List FsRow) → AreRows rows → row_at serial rows ≡ Some row → is_called row.name (without serial rows) ≡ false
@@ -150,11 +88,11 @@ Stand rows = AllByRecursion (λ (y : FsRow). name_at rows y.serial ≡ y.name)
 pub all_stand : (rows : List FsRow) → AreRows rows → Stand rows rows
 all_stand rows h = weaker (λ (y : FsRow). row_at y.serial rows ≡ Some y) (λ (y : FsRow). name_at rows y.serial ≡ y.name) (λ y e. ap name_or_none e) rows (each_found rows h)
 
-pub by_name_stand : (rows : List FsRow) → AreRows rows → Stand rows (by_name rows)
-by_name_stand rows h = all_by_name (λ (y : FsRow). name_at rows y.serial ≡ y.name) rows (all_stand rows h)
+pub by_name_stand : (rows : List FsRow) → AreRows rows → Stand rows (ordered name_of rows)
+by_name_stand rows h = all_ordered name_of (λ (y : FsRow). name_at rows y.serial ≡ y.name) rows (all_stand rows h)
 
-pub others_stand : (serial : ℕ) (rows : List FsRow) → AreRows rows → Stand rows (by_name (without serial rows))
-others_stand serial rows h = all_by_name (λ (y : FsRow). name_at rows y.serial ≡ y.name) (without serial rows) (all_filtered name_of (λ (y : FsRow). name_at rows y.serial ≡ y.name) (λ (y : FsRow). not (has_serial serial y)) rows (all_stand rows h))
+pub others_stand : (serial : ℕ) (rows : List FsRow) → AreRows rows → Stand rows (ordered name_of (without serial rows))
+others_stand serial rows h = all_ordered name_of (λ (y : FsRow). name_at rows y.serial ≡ y.name) (without serial rows) (all_filtered name_of (λ (y : FsRow). name_at rows y.serial ≡ y.name) (λ (y : FsRow). not (has_serial serial y)) rows (all_stand rows h))
 
 module _ (rows : List FsRow) where
   abbrev key : ℕ → Text
@@ -195,36 +133,36 @@ module _ (rows : List FsRow) where
 -- what a search by name finds
 pub told : (rows : List FsRow) (names : List ℕ) (name : Text) (i d : ℕ) → IsIndexed rows names → find (λ s. bytes_eq (name_at rows s) name) names ≡ Some (get_or names i d) → serial_of name rows ≡ Some (get_or names i d)
 told rows names name i d indexed h =
-    sym (ap (option_map serial_in) (found_by_name name rows indexed.apart)) ∙ (sym (find_stands rows name (by_name rows) (by_name_stand rows indexed.apart)) ∙ (ap (find (λ s. bytes_eq (name_at rows s) name)) (sym indexed.order) ∙ h))
+    sym (ap (option_map serial_in) (found_by_name name rows indexed.apart)) ∙ (sym (find_stands rows name (ordered name_of rows) (by_name_stand rows indexed.apart)) ∙ (ap (find (λ s. bytes_eq (name_at rows s) name)) (sym indexed.order) ∙ h))
 
 pub told_new : (rows : List FsRow) (names : List ℕ) (name : Text) → IsIndexed rows names → list_any (λ s. bytes_eq (name_at rows s) name) names ≡ false → is_called name rows ≡ false
-told_new rows names name indexed h = sym (any_by_name (has_name name) rows) ∙ (sym (any_stands rows name (by_name rows) (by_name_stand rows indexed.apart)) ∙ (ap (list_any (λ s. bytes_eq (name_at rows s) name)) (sym indexed.order) ∙ h))
+told_new rows names name indexed h = sym (any_ordered name_of (has_name name) rows) ∙ (sym (any_stands rows name (ordered name_of rows) (by_name_stand rows indexed.apart)) ∙ (ap (list_any (λ s. bytes_eq (name_at rows s) name)) (sym indexed.order) ∙ h))
 
 pub told_none : (rows : List FsRow) (names : List ℕ) (name : Text) → IsIndexed rows names → list_any (λ s. bytes_eq (name_at rows s) name) names ≡ false → serial_of name rows ≡ None
 told_none rows names name indexed h = ap (option_map serial_in) (find_none name_of (has_name name) rows (told_new rows names name indexed h))
 
 -- the serial goes from its place
-pub gone_from : (rows : List FsRow) (names : List ℕ) (serial : ℕ) (row : FsRow) → IsIndexed rows names → row_at serial rows ≡ Some row → filter (λ s. not (bytes_eq (name_at rows s) row.name)) names ≡ map serial_in (by_name (without serial rows))
+pub gone_from : (rows : List FsRow) (names : List ℕ) (serial : ℕ) (row : FsRow) → IsIndexed rows names → row_at serial rows ≡ Some row → filter (λ s. not (bytes_eq (name_at rows s) row.name)) names ≡ map serial_in (ordered name_of (without serial rows))
 gone_from rows names serial row indexed found =
     ap (filter (λ s. not (bytes_eq (name_at rows s) row.name))) indexed.order
-    ∙ (filter_stands rows row.name (by_name rows) (by_name_stand rows indexed.apart)
+    ∙ (filter_stands rows row.name (ordered name_of rows) (by_name_stand rows indexed.apart)
     ∙ ap (map serial_in) (ap (filter (λ y. not (has_name row.name y))) (one_more serial row rows indexed.apart found)
-    ∙ left_out (has_name row.name) row (by_name (without serial rows)) (eq_self row.name) (any_by_name (has_name row.name) (without serial rows) ∙ name_alone serial row rows indexed.apart found)))
+    ∙ left_out (has_name row.name) row (ordered name_of (without serial rows)) (eq_self row.name) (any_ordered name_of (has_name row.name) (without serial rows) ∙ name_alone serial row rows indexed.apart found)))
 
 -- it isn't there, and comes to its place
-pub new_among : (rows : List FsRow) (names : List ℕ) (serial : ℕ) (row : FsRow) → AreRows rows → names ≡ map serial_in (by_name (without serial rows)) → row_at serial rows ≡ Some row → list_any (λ s. bytes_eq (name_at rows s) row.name) names ≡ false
+pub new_among : (rows : List FsRow) (names : List ℕ) (serial : ℕ) (row : FsRow) → AreRows rows → names ≡ map serial_in (ordered name_of (without serial rows)) → row_at serial rows ≡ Some row → list_any (λ s. bytes_eq (name_at rows s) row.name) names ≡ false
 new_among rows names serial row apart is found =
     ap (list_any (λ s. bytes_eq (name_at rows s) row.name)) is
-    ∙ (any_stands rows row.name (by_name (without serial rows)) (others_stand serial rows apart)
-    ∙ (any_by_name (has_name row.name) (without serial rows) ∙ name_alone serial row rows apart found))
+    ∙ (any_stands rows row.name (ordered name_of (without serial rows)) (others_stand serial rows apart)
+    ∙ (any_ordered name_of (has_name row.name) (without serial rows) ∙ name_alone serial row rows apart found))
 
-pub come_to : (rows : List FsRow) (names : List ℕ) (serial : ℕ) (row : FsRow) → AreRows rows → names ≡ map serial_in (by_name (without serial rows)) → row_at serial rows ≡ Some row → entered (name_at rows) serial names ≡ map serial_in (by_name rows)
+pub come_to : (rows : List FsRow) (names : List ℕ) (serial : ℕ) (row : FsRow) → AreRows rows → names ≡ map serial_in (ordered name_of (without serial rows)) → row_at serial rows ≡ Some row → entered (name_at rows) serial names ≡ map serial_in (ordered name_of rows)
 come_to rows names serial row apart is found =
     let same : row.serial ≡ serial = (Decides-eqb row.serial serial).0 (found_passes (has_serial serial) (λ (y : FsRow). name_at rows y.serial ≡ y.name) rows row (all_stand rows apart) found).0 in
     let stands : name_at rows row.serial ≡ row.name = (found_passes (has_serial serial) (λ (y : FsRow). name_at rows y.serial ≡ y.name) rows row (all_stand rows apart) found).1 in
     ap (entered (name_at rows) serial) is
-    ∙ (ap (λ s. entered (name_at rows) s (map serial_in (by_name (without serial rows)))) (sym same)
-    ∙ (entered_stands rows row stands (by_name (without serial rows)) (others_stand serial rows apart)
+    ∙ (ap (λ s. entered (name_at rows) s (map serial_in (ordered name_of (without serial rows)))) (sym same)
+    ∙ (entered_stands rows row stands (ordered name_of (without serial rows)) (others_stand serial rows apart)
     ∙ ap (map serial_in) (sym (one_more serial row rows apart found))))
 
 -- ---- rows that keep serial and name
@@ -238,9 +176,9 @@ module _ (g : FsRow → FsRow) (serials : (row : FsRow) → (g row).serial ≡ r
       ∙ (ap (λ t. cond (is_below t y.name) (g x ∷ entered name_of (g y) (map g xs)) (g y ∷ g x ∷ map g xs)) (sym (names x))
       ∙ ap (λ t. cond (is_below (g x).name t) (g x ∷ entered name_of (g y) (map g xs)) (g y ∷ g x ∷ map g xs)) (sym (names y)))
 
-  by_name_map : (rows : List FsRow) → by_name (map g rows) ≡ map g (by_name rows)
+  by_name_map : (rows : List FsRow) → ordered name_of (map g rows) ≡ map g (ordered name_of rows)
   by_name_map [] = refl
-  by_name_map (x ∷ xs) = ap (entered name_of (g x)) (by_name_map xs) ∙ sym (entered_map x (by_name xs))
+  by_name_map (x ∷ xs) = ap (entered name_of (g x)) (by_name_map xs) ∙ sym (entered_map x (ordered name_of xs))
 
   serials_map : (rows : List FsRow) → map serial_in (map g rows) ≡ map serial_in rows
   serials_map [] = refl
@@ -263,7 +201,7 @@ module _ (g : FsRow → FsRow) (serials : (row : FsRow) → (g row).serial ≡ r
   pub indexed_kept : (rows : List FsRow) (index : List ℕ) → IsIndexed rows index → IsIndexed (map g rows) index
   indexed_kept rows index h = record {
     apart = rows_kept rows h.apart;
-    order = h.order ∙ sym (ap (map serial_in) (by_name_map rows) ∙ serials_map (by_name rows));
+    order = h.order ∙ sym (ap (map serial_in) (by_name_map rows) ∙ serials_map (ordered name_of rows));
   }
 
 -- one row is changed, but neither its serial nor its name
@@ -285,7 +223,7 @@ indexed_changed change serials names serial rows index h = indexed_kept g serial
 
 -- ---- as the calls have it: `there` and `n` are what they read
 
-pub never : (rows : List FsRow) (names : List ℕ) (serial : ℕ) (row : FsRow) (n : Text) (i : ℕ) → AreRows rows → names ≡ map serial_in (by_name (without serial rows)) → row_at serial rows ≡ Some row → n ≡ row.name
+pub never : (rows : List FsRow) (names : List ℕ) (serial : ℕ) (row : FsRow) (n : Text) (i : ℕ) → AreRows rows → names ≡ map serial_in (ordered name_of (without serial rows)) → row_at serial rows ≡ Some row → n ≡ row.name
     → find (λ s. bytes_eq (name_at rows s) n) names ≡ Some i → ⊥
 never rows names serial row n i apart is found same h =
     let none : find (λ s. bytes_eq (name_at rows s) row.name) names ≡ None = find_none (name_at rows) (λ s. bytes_eq (name_at rows s) row.name) names (new_among rows names serial row apart is found) in
@@ -309,7 +247,7 @@ always rows names serial row n indexed found same h =
     let some : is_called row.name rows ≡ true = any_there (has_name row.name) (has_serial serial) rows row found (eq_self row.name) in
     cc
 
-pub come : (rows : List FsRow) (names there new : List ℕ) (serial : ℕ) (row : FsRow) (n : Text) (i : ℕ) → AreRows rows → there ≡ names → names ≡ map serial_in (by_name (without serial rows)) → row_at serial rows ≡ Some row → n ≡ row.name
+pub come : (rows : List FsRow) (names there new : List ℕ) (serial : ℕ) (row : FsRow) (n : Text) (i : ℕ) → AreRows rows → there ≡ names → names ≡ map serial_in (ordered name_of (without serial rows)) → row_at serial rows ≡ Some row → n ≡ row.name
     → new ≡ insert names i serial → ((s : ℕ) → name_at rows s ≡ n → insert there i s ≡ entered (name_at rows) s there) → IsIndexed rows new
 come rows names there new serial row n i apart read is found same put place = record {
   apart = apart;
@@ -317,7 +255,7 @@ come rows names there new serial row n i apart read is found same put place = re
 }
 
 pub left : (rows : List FsRow) (names there new : List ℕ) (serial : ℕ) (row : FsRow) (n : Text) (i : ℕ) → IsIndexed rows names → there ≡ names → row_at serial rows ≡ Some row → n ≡ row.name
-    → new ≡ remove names i → remove there i ≡ filter (λ s. not (bytes_eq (name_at rows s) n)) there → new ≡ map serial_in (by_name (without serial rows))
+    → new ≡ remove names i → remove there i ≡ filter (λ s. not (bytes_eq (name_at rows s) n)) there → new ≡ map serial_in (ordered name_of (without serial rows))
 left rows names there new serial row n i indexed read found same taken rest =
     taken ∙ (subst (λ ns. remove ns i ≡ filter (λ s. not (bytes_eq (name_at rows s) row.name)) ns) read (subst (λ t. remove there i ≡ filter (λ s. not (bytes_eq (name_at rows s) t)) there) same rest)
     ∙ gone_from rows names serial row indexed found)
@@ -328,12 +266,12 @@ blank = record { serial = 0; name = []; size = 0; limit = None; origin = None; m
 pub there_of : (rows : List FsRow) (serial i : ℕ) → ((d : FsRow) → row_at serial rows ≡ Some (get_or rows i d)) → is_there serial rows ≡ true
 there_of rows serial i h = sym (any_found (has_serial serial) rows) ∙ ap is_some (h blank)
 
-pub taken_out : (rows a b new : List FsRow) (names : List ℕ) (serial i : ℕ) → AreRows rows → a ≡ rows → b ≡ rows → new ≡ remove rows i → remove a i ≡ without serial a → names ≡ map serial_in (by_name (without serial b)) → IsIndexed new names
+pub taken_out : (rows a b new : List FsRow) (names : List ℕ) (serial i : ℕ) → AreRows rows → a ≡ rows → b ≡ rows → new ≡ remove rows i → remove a i ≡ without serial a → names ≡ map serial_in (ordered name_of (without serial b)) → IsIndexed new names
 taken_out rows a b new names serial i apart first second taken rest is =
     let others : new ≡ without serial rows = taken ∙ subst (λ ys. remove ys i ≡ without serial ys) first rest in
     subst (λ ys. IsIndexed ys names) (sym others) (record {
       apart = apart_filtered (λ (y : FsRow). not (has_serial serial y)) rows apart;
-      order = subst (λ ys. names ≡ map serial_in (by_name (without serial ys))) second is;
+      order = subst (λ ys. names ≡ map serial_in (ordered name_of (without serial ys))) second is;
     })
 
 -- ---- origins

@@ -1,8 +1,8 @@
 ghost use Rattle.std.specs.Prelude.{◌≡◌, ◌<◌, ◌≤◌, length, map, filter, find, insert, remove, slice_index_or, not, bytes_eq, true, false, Some, IfOk, IfErr, vec_len, vec_capacity};
 ghost use Rattle.std.specs.List.{list_any};
-ghost use Rattle.st_order.specs.Sorted.{IsRising, entered};
+ghost use Rattle.st_order.specs.Sorted.{IsRising, entered, ordered};
 ghost use Rattle.st_fstable.specs.Rows.{AreRows, is_there, without};
-ghost use Rattle.st_fstable.specs.inner.ByName.{IsIndexed, by_name, name_at, serial_in};
+ghost use Rattle.st_fstable.specs.inner.ByName.{IsIndexed, name_at, name_of, serial_in};
 
 use crate::rows::{place_of, search_serial};
 use st_units::FsRow;
@@ -36,7 +36,7 @@ pub(crate) fn search_name(rows: &[FsRow], names: &[u64], name: &[u8]) -> Result<
 pub(crate) fn leave(rows: &[FsRow], names: &mut Vec<u64>, serial: u64)
     requires indexed { IsIndexed rows.now names.old.items }
     requires there { is_there serial rows.now ≡ true }
-    ensures others { names.new.items ≡ map serial_in (by_name (without serial rows.now)) }
+    ensures others { names.new.items ≡ map serial_in (ordered name_of (without serial rows.now)) }
     ensures room { vec_len names.new < vec_capacity names.new }
 {
     let i = place_of(rows, serial);
@@ -52,7 +52,7 @@ pub(crate) fn leave(rows: &[FsRow], names: &mut Vec<u64>, serial: u64)
 pub(crate) fn enter(rows: &[FsRow], names: &mut Vec<u64>, serial: u64)
     requires rows { AreRows rows.now }
     requires there { is_there serial rows.now ≡ true }
-    requires others { names.old.items ≡ map serial_in (by_name (without serial rows.now)) }
+    requires others { names.old.items ≡ map serial_in (ordered name_of (without serial rows.now)) }
     requires room { vec_len names.old < vec_capacity names.old }
     ensures { IsIndexed rows.now names.new.items }
 {

@@ -51,7 +51,7 @@ other_way a b below apart = more_of (text_cmp a b) (text_cmp b a) (nat_list_cmp_
 not_both : (o r : Ordering) → o ≡ Less → r ≡ ordering_reverse o → is_lt r ≡ false
 not_both o r h turned = ap is_lt (turned ∙ ap ordering_reverse h)
 
-below_below : (a b : Text) (ts : List Text) → text_cmp a b ≡ Less → AllByRecursion (λ t. text_cmp b t ≡ Less) ts → AllByRecursion (λ t. text_cmp a t ≡ Less) ts
+pub below_below : (a b : Text) (ts : List Text) → text_cmp a b ≡ Less → AllByRecursion (λ t. text_cmp b t ≡ Less) ts → AllByRecursion (λ t. text_cmp a t ≡ Less) ts
 below_below a b [] less h = tt
 below_below a b (t ∷ ts) less h = (nat_list_cmp_total.trans a b t less h.0, below_below a b ts less h.1)
 
@@ -81,7 +81,7 @@ module _ {X : Type 0} (key : X → Text) where
   unfolding IsStrictlySortedBy
   rising_none = tt
 
-  first_at : (t : Text) (xs : List X) (i : ℕ) (d : X) → AllByRecursion (λ u. text_cmp t u ≡ Less) (map key xs) → i < length xs → text_cmp t (key (get_or xs i d)) ≡ Less
+  pub first_at : (t : Text) (xs : List X) (i : ℕ) (d : X) → AllByRecursion (λ u. text_cmp t u ≡ Less) (map key xs) → i < length xs → text_cmp t (key (get_or xs i d)) ≡ Less
   first_at t [] i d h lt = absurd (omega arith)
   first_at t (x ∷ xs) zero d h lt = h.0
   first_at t (x ∷ xs) (suc i) d h lt = first_at t xs i d h.1 (omega arith)

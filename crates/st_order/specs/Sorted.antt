@@ -18,3 +18,8 @@ IsRising = IsStrictlySortedBy (slice_cmp nat_cmp)
 abbrev pub entered : {A : Type 0} → (A → Text) → A → List A → List A
 entered text x [] = x ∷ []
 entered text x (y ∷ ys) = if is_below (text y) (text x) then y ∷ entered text x ys else x ∷ y ∷ ys
+
+-- the items in byte order of their texts
+abbrev pub ordered : {A : Type 0} → (A → Text) → List A → List A
+ordered text [] = []
+ordered text (x ∷ xs) = entered text x (ordered text xs)

@@ -3,4 +3,4 @@
 
 mod sorted;
 
-pub use sorted::{Keyed, search};
+pub use sorted::{Keyed, is_rising, search};

@@ -1,8 +1,9 @@
-ghost use Rattle.std.specs.Prelude.{◌≡◌, ◌<◌, ◌≤◌, map, length, if◌then◌else◌, slice_set, slice_index_or, insert, remove, filter, find, not, bytes_eq, Some, false, IfOk, IfErr};
+ghost use Rattle.std.specs.Prelude.{◌≡◌, ◌<◌, ◌≤◌, ◌↔◌, IsTrue, map, length, if◌then◌else◌, slice_set, slice_index_or, insert, remove, filter, find, not, bytes_eq, Some, false, IfOk, IfErr};
 ghost use Rattle.std.specs.List.{list_any};
 ghost use Rattle.st_order.specs.Sorted.{IsRising, entered};
 
-use st_units::DevPath;
+use st_units::{DevPath, DevRow};
+use std::cmp::Ordering;
 
 /// What stands in lists in byte order of a text.
 pub trait Keyed {
@@ -20,6 +21,26 @@ impl Keyed for DevPath {
     fn key(&self) -> &[u8] {
         self.bytes()
     }
+}
+
+impl Keyed for DevRow {
+    ghost text = { λ row. row.path };
+
+    fn key(&self) -> &[u8] {
+        self.path.bytes()
+    }
+}
+
+/// Whether each text is below the next one.
+pub fn is_rising<T: Keyed>(items: &[T]) -> bool
+    ensures { IsTrue result ↔ IsRising (map T.text items.now) }
+{
+    for i in 1..items.len() {
+        if items[i - 1].key().cmp(items[i].key()) != Ordering::Less {
+            return false;
+        }
+    }
+    true
 }
 
 /// The place of the item with this text, by halving; or else the place where one belongs.

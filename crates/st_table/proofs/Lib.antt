@@ -1,3 +1,6 @@
+mod Asked
 mod Changes
+mod Followed
+mod Following
 mod Marks
 mod Standing

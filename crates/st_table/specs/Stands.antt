@@ -1,5 +1,5 @@
 -- the model's table that a table of pools stands for, and what both tell alike
-use Rattle.std.specs.Prelude.{◌≡◌, ℕ, List, [], ◌∷◌, length, map, find, ◌==◌, Option, Some, None, is_some}
+use Rattle.std.specs.Prelude.{◌≡◌, ℕ, List, [], length, map, find, ◌==◌, Option, Some, None, is_some}
 use Rattle.std.specs.List.{list_any}
 use Rattle.st_model.specs.declared.state.KnownPool.{KnownPool}
 use Rattle.st_model.specs.declared.state.PoolMode.{PoolMode}
@@ -9,7 +9,7 @@ use Rattle.st_model.specs.declared.state.TableState.{TableState}
 use Rattle.st_model.specs.Look.{Text, devices_taken, name_given}
 use Rattle.st_model.specs.OnTable.{is_held}
 use Rattle.st_model.specs.Parts.{known, pool_at, free_of}
-use Rattle.st_order.specs.Sorted.{entered}
+use Rattle.st_order.specs.Sorted.{ordered}
 use Rattle.st_table.specs.declared.halted.HaltedInfo.{HaltedInfo}
 use Rattle.st_table.specs.declared.halted.HaltedMode.{HaltedMode}
 use Rattle.st_table.specs.declared.halted.HaltedMode.TheVariants as halted
@@ -17,11 +17,6 @@ use Rattle.st_table.specs.Table.{TablePool, TableView, names_of, is_taken, has_s
 
 abbrev pub known_name : KnownPool → Text
 known_name pool = pool.name
-
--- in byte order of their names
-abbrev pub by_name : List KnownPool → List KnownPool
-by_name [] = []
-by_name (pool ∷ pools) = entered known_name pool (by_name pools)
 
 abbrev pub halted_so : HaltedMode → PoolState → HaltedInfo
 halted_so mode pool = record { mode = mode; devs = (known pool).devices; flight = []; new = None }
@@ -44,7 +39,7 @@ tabled stopped pool = record { known = pool; halted = info_of (pool_at pool.name
 
 -- the model's pools stand in order of their serials, the table's in byte order of their names
 pub record Stands (view : TableView) (t : TableState) : Type 0 where
-  pub pools : view.pools ≡ map (tabled t.stopped) (by_name t.names)
+  pub pools : view.pools ≡ map (tabled t.stopped) (ordered known_name t.names)
   pub devices : view.devices ≡ t.devices
   pub next : view.next ≡ t.next
 

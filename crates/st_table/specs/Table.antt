@@ -1,5 +1,5 @@
 -- what the table of pools stands for, and what it tells
-use Rattle.std.specs.Prelude.{ℕ, ◌+◌, ◌≡◌, List, ◌++◌, map, filter, filter_map, find, Bool, true, false, not, nat_lt, bytes_eq, ◌==◌, if◌then◌else◌, Option, Some, None, is_none, is_some, option_map, option_and_then}
+use Rattle.std.specs.Prelude.{ℕ, ◌+◌, ◌≡◌, List, [], ◌++◌, map, filter, filter_map, find, Bool, true, false, not, nat_lt, bytes_eq, ◌==◌, if◌then◌else◌, Option, Some, None, is_none, is_some, option_map, option_and_then}
 use Rattle.std.specs.List.{list_any}
 use Rattle.st_units.specs.declared.rows.DevRow.{DevRow}
 use Rattle.st_model.specs.declared.info.ShownMode.{ShownMode}
@@ -108,6 +108,13 @@ new_at name pools = option_and_then (λ (pool : TablePool). pool.known.new) (poo
 
 abbrev pub halted_at : Text → List TablePool → Option HaltedInfo
 halted_at name pools = option_and_then (λ (pool : TablePool). pool.halted) (pool_named name pools)
+
+abbrev pub devices_in : Option TablePool → List Text
+devices_in None = []
+devices_in (Some pool) = pool.known.devices
+
+abbrev pub devices_at : Text → List TablePool → List Text
+devices_at name pools = devices_in (pool_named name pools)
 
 abbrev pub user_name : Text → List TablePool → Option Text
 user_name path pools = option_map (λ (pool : KnownPool). pool.name) (user_of path (names_of pools))

@@ -12,5 +12,5 @@ mod sorted;
 mod table;
 
 pub use halted::{HaltedInfo, HaltedMode};
-pub use laws::tells_as_the_model;
+pub use laws::{changes_as_the_model, keeps_as_the_model, tells_as_the_model, tells_of_each_pool};
 pub use table::Table;

@@ -1,8 +1,12 @@
 ghost use Rattle.std.specs.Prelude.{◌≡◌, ◌+◌, ◌≤◌, ◌++◌, [], length, None, IfOk, option_copied, vec_capacity};
+ghost use Rattle.st_model.specs.Look.{has_path, is_name_of};
+ghost use Rattle.st_model.specs.OnTable.{is_held};
+ghost use Rattle.st_model.specs.Parts.{is_used};
 ghost use Rattle.st_table.specs.Table.{holding, with_devices};
 ghost use Rattle.st_table.specs.inner.Sound.{devices_held, new_held, info_held, table_pool};
 
 use crate::halted::{HaltedInfo, copy_name};
+use st_model::look;
 use st_order::Keyed;
 use st_units::{DevList, DevPath, Name, NoMemory, PoolSerial};
 use std::alloc::Global;
@@ -13,6 +17,15 @@ pub(crate) enum Holding {
     /// The devices in use, and the new name of a rename in flight.
     Started(DevList, Option<Name>),
     Halted(HaltedInfo),
+}
+
+pub(crate) fn is_name(held: Option<&Name>, name: &Name) -> bool
+    ensures { result ≡ is_name_of name.now (option_copied held.entry) }
+{
+    match held {
+        Some(held) => held.bytes() == name.bytes(),
+        None => false,
+    }
 }
 
 /// A known pool.
@@ -61,6 +74,12 @@ impl Holding {
         }
     }
 
+    fn uses(&self, path: &DevPath) -> bool
+        ensures { result ≡ has_path path.now (devices_held self.now) }
+    {
+        look::has_path(self.devices().items(), path)
+    }
+
     pub(crate) fn info(&self) -> Option<&HaltedInfo>
         ensures { option_copied result ≡ info_held self.now }
     {
@@ -72,6 +91,20 @@ impl Holding {
 }
 
 impl Pool {
+    /// Whether the pool holds the name.
+    pub(crate) fn holds(&self, name: &Name) -> bool
+        ensures { result ≡ is_held name.now (table_pool self.now).known }
+    {
+        self.name.bytes() == name.bytes() || is_name(self.holding.new_name(), name)
+    }
+
+    /// Whether the pool uses the device.
+    pub(crate) fn uses(&self, path: &DevPath) -> bool
+        ensures { result ≡ is_used path.now (table_pool self.now).known }
+    {
+        self.holding.uses(path)
+    }
+
     /// The same once more.
     pub(crate) fn copy(&self, alloc: Global) -> Result<Pool, NoMemory>
         ensures { IfOk result (λ copy. copy ≡ self.now) }

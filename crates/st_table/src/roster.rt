@@ -1,18 +1,18 @@
-ghost use Rattle.std.specs.Prelude.{◌≡◌, ◌+◌, ◌<◌, ◌≤◌, List, [], map, ◌==◌, filter, filter_map, is_none, true, false, is_some, bytes_eq, find, Option, Some, None, IfOk, OnOk, OnErr, option_copied, option_map, vec_len, vec_capacity};
-ghost use Rattle.std.specs.List.{AllByRecursion, list_any};
+ghost use Rattle.std.specs.Prelude.{◌≡◌, ◌+◌, ◌<◌, ◌≤◌, ◌&&◌, not, List, [], map, ◌==◌, filter, filter_map, is_none, true, false, is_some, bytes_eq, find, Option, Some, None, IfOk, OnOk, OnErr, option_copied, option_map, vec_len, vec_capacity};
+ghost use Rattle.std.specs.List.{AllByRecursion, list_any, list_all};
 ghost use Rattle.st_units.specs.declared.rows.DevRow.{DevRow};
 ghost use Rattle.st_model.specs.Look.{is_name_of, row_of};
-ghost use Rattle.st_model.specs.OnTable.{user_of};
-ghost use Rattle.st_model.specs.Parts.{free_of};
+ghost use Rattle.st_model.specs.OnTable.{is_held, user_of};
+ghost use Rattle.st_model.specs.Parts.{free_of, is_used};
 ghost use Rattle.st_order.specs.Sorted.{IsRising};
 ghost use Rattle.st_table.specs.Table.{TablePool, pool_named, knows, names_of, is_taken, has_serial, IsFree, without, with_pool, stopped_row};
-ghost use Rattle.st_table.specs.inner.Sound.{devices_held, new_held, is_user, table_pool, row_in, path_in, marked, user_among};
+ghost use Rattle.st_table.specs.inner.Sound.{devices_held, new_held, is_user, table_pool, row_in, path_in, marked, user_among, is_free};
 
 use crate::device::{Device, mark};
-use crate::pool::Pool;
+use crate::pool::{Pool, is_name};
 use st_model::{StoppedList, StoppedRow};
 use st_order::search;
-use st_units::{DevList, DevPath, DevRow, DevRows, Name, NoMemory};
+use st_units::{DevList, DevPath, DevRow, DevRows, Name, NoMemory, PoolSerial};
 use std::alloc::Global;
 use std::marker::Model;
 
@@ -110,13 +110,24 @@ fn has_new_name(pools: &[Pool], name: &Name) -> bool
         .any(|pool| is_name(pool.holding.new_name(), name))
 }
 
-fn is_name(held: Option<&Name>, name: &Name) -> bool
-    ensures { result ≡ is_name_of name.now (option_copied held.entry) }
+fn taken_beside(pools: &[Pool], own: &Name, name: &Name) -> bool
+    ensures { result ≡ list_any (λ (pool : _). not (bytes_eq pool.name own.now) && is_held name.now (table_pool pool).known) pools.now }
 {
-    match held {
-        Some(held) => held.bytes() == name.bytes(),
-        None => false,
-    }
+    pools.iter().any(|pool| pool.name.bytes() != own.bytes() && pool.holds(name))
+}
+
+fn used(pools: &[Pool], path: &DevPath) -> bool
+    ensures { result ≡ list_any (λ (pool : _). is_used path.now (table_pool pool).known) pools.now }
+{
+    pools.iter().any(|pool| pool.uses(path))
+}
+
+fn used_beside(pools: &[Pool], own: &Name, path: &DevPath) -> bool
+    ensures { result ≡ list_any (λ (pool : _). not (bytes_eq pool.name own.now) && is_used path.now (table_pool pool).known) pools.now }
+{
+    pools
+        .iter()
+        .any(|pool| pool.name.bytes() != own.bytes() && pool.uses(path))
 }
 
 /// What a report shows of the pool, where it isn't started.
@@ -216,6 +227,52 @@ impl Roster {
         ensures { result ≡ is_taken name.now self.now.pools }
     {
         self.pool(name).is_some() || has_new_name(&self.pools, name)
+    }
+
+    /// Whether a pool has the serial.
+    pub(crate) fn has_serial(&self, serial: PoolSerial) -> bool
+        ensures { result ≡ has_serial serial self.now.pools }
+    {
+        of_serial(&self.pools, serial.number()).is_some()
+    }
+
+    /// Whether a pool but the one of that name holds the name.
+    pub(crate) fn is_taken_beside(&self, own: &Name, name: &Name) -> bool
+        ensures { result ≡ is_taken name.now (without own.now self.now.pools) }
+    {
+        taken_beside(&self.pools, own, name)
+    }
+
+    fn is_free(&self, path: &DevPath) -> bool
+        ensures { result ≡ is_free self.now.pools self.now.devices path.now }
+    {
+        match self.row(path) {
+            Some(_) => !used(&self.pools, path),
+            None => true,
+        }
+    }
+
+    fn is_free_beside(&self, own: &Name, path: &DevPath) -> bool
+        ensures { result ≡ is_free (without own.now self.now.pools) self.now.devices path.now }
+    {
+        match self.row(path) {
+            Some(_) => !used_beside(&self.pools, own, path),
+            None => true,
+        }
+    }
+
+    /// Whether none of the devices is one of the rack that a pool uses.
+    pub(crate) fn are_free(&self, paths: &[DevPath]) -> bool
+        ensures { result ≡ list_all (is_free self.now.pools self.now.devices) paths.now }
+    {
+        paths.iter().all(|path| self.is_free(path))
+    }
+
+    /// Whether none of the devices is one of the rack that a pool but the one of that name uses.
+    pub(crate) fn are_free_beside(&self, own: &Name, paths: &[DevPath]) -> bool
+        ensures { result ≡ list_all (is_free (without own.now self.now.pools) self.now.devices) paths.now }
+    {
+        paths.iter().all(|path| self.is_free_beside(own, path))
     }
 
     /// The devices that no pool uses, in byte order of their paths.

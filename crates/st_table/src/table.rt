@@ -1,9 +1,9 @@
-ghost use Rattle.std.specs.Prelude.{◌≡◌, ◌+◌, ◌<◌, ◌≤◌, ◌^◌, List, [], ◌++◌, map, length, true, false, is_some, Option, Some, None, IfSome, IfNone, IfOk, OnOk, OnErr, option_copied, option_map, vec_len, vec_capacity};
+ghost use Rattle.std.specs.Prelude.{◌≡◌, ◌+◌, ◌<◌, ◌≤◌, ◌^◌, ◌↔◌, IsTrue, List, [], ◌++◌, map, length, true, false, is_some, Option, Some, None, IfSome, IfNone, IfOk, OnOk, OnErr, option_copied, option_map, vec_len, vec_capacity};
 ghost use Rattle.std.specs.List.{AllByRecursion};
 ghost use Rattle.st_units.specs.declared.rows.DevRow.{DevRow};
 ghost use Rattle.st_model.specs.Look.{row_of};
 ghost use Rattle.st_order.specs.Sorted.{IsRising};
-ghost use Rattle.st_table.specs.Table.{TablePool, TableView, pool_named, knows, runs, is_taken, has_serial, IsFree, without, with_pool, with_instead, changed, next_above, new_pool, renamed, holding, with_devices, halted_as, woken, new_at, halted_at, user_name, AreInOrder, shown};
+ghost use Rattle.st_table.specs.Table.{TablePool, TableView, pool_named, knows, runs, is_taken, has_serial, IsFree, without, with_pool, with_instead, changed, next_above, new_pool, renamed, holding, with_devices, halted_as, woken, new_at, halted_at, devices_at, user_name, AreInOrder, shown};
 
 use crate::halted::HaltedInfo;
 use crate::pool::{Holding, Pool};
@@ -134,6 +134,68 @@ impl Table {
         ensures { result ≡ is_taken name.now self.now.pools }
     {
         self.roster.is_taken(name)
+    }
+
+    /// Whether a pool but the one called `own` holds the name.
+    pub fn held_beside(&self, own: &Name, name: &Name) -> bool
+        ensures { result ≡ is_taken name.now (without own.now self.now.pools) }
+    {
+        self.roster.is_taken_beside(own, name)
+    }
+
+    /// Whether a pool has the name as its own.
+    pub fn is_known(&self, name: &Name) -> bool
+        ensures { result ≡ knows name.now self.now.pools }
+    {
+        self.roster.pool(name).is_some()
+    }
+
+    /// Whether the pool of this name is started.
+    pub fn is_started(&self, name: &Name) -> bool
+        ensures { result ≡ runs name.now self.now.pools }
+    {
+        match self.roster.pool(name) {
+            Some(pool) => pool.holding.info().is_none(),
+            None => false,
+        }
+    }
+
+    /// Whether a known pool has the serial.
+    pub fn has_serial(&self, serial: PoolSerial) -> bool
+        ensures { result ≡ has_serial serial self.now.pools }
+    {
+        self.roster.has_serial(serial)
+    }
+
+    /// Whether memory for a change is there.
+    pub fn is_prepared(&self) -> bool
+        ensures { result ≡ self.now.prepared }
+    {
+        self.room.is_some()
+    }
+
+    /// Whether none of the devices is one of the rack that a pool uses.
+    pub fn are_free(&self, devs: &DevList) -> bool
+        ensures { IsTrue result ↔ AllByRecursion (IsFree self.now.pools self.now.devices) devs.now }
+    {
+        self.roster.are_free(devs.items())
+    }
+
+    /// Whether none of the devices is one of the rack that a pool but the one called `own` uses.
+    pub fn are_free_beside(&self, own: &Name, devs: &DevList) -> bool
+        ensures { IsTrue result ↔ AllByRecursion (IsFree (without own.now self.now.pools) self.now.devices) devs.now }
+    {
+        self.roster.are_free_beside(own, devs.items())
+    }
+
+    /// How many devices the pool of this name uses, 0 where none has the name.
+    pub fn devs_used(&self, name: &Name) -> usize
+        ensures { result ≡ length (devices_at name.now self.now.pools) }
+    {
+        match self.roster.pool(name) {
+            Some(pool) => pool.holding.devices().len(),
+            None => 0,
+        }
     }
 
     /// The serial that the next pool gets, from 1 to 2^48 + 1.

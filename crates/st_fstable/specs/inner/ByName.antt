@@ -1,7 +1,7 @@
 -- the order of the names, which the table keeps as serials
-use Rattle.std.specs.Prelude.{◌≡◌, ℕ, List, [], ◌∷◌, map, Option, None, Some}
+use Rattle.std.specs.Prelude.{◌≡◌, ℕ, List, [], map, Option, None, Some}
 use Rattle.st_units.specs.declared.rows.FsRow.{FsRow}
-use Rattle.st_order.specs.Sorted.{Text, entered}
+use Rattle.st_order.specs.Sorted.{Text, ordered}
 use Rattle.st_fstable.specs.Rows.{AreRows, row_at}
 
 abbrev pub name_of : FsRow → Text
@@ -9,11 +9,6 @@ name_of row = row.name
 
 abbrev pub serial_in : FsRow → ℕ
 serial_in row = row.serial
-
--- the rows in byte order of their names
-abbrev pub by_name : List FsRow → List FsRow
-by_name [] = []
-by_name (row ∷ rows) = entered name_of row (by_name rows)
 
 abbrev pub name_or_none : Option FsRow → Text
 name_or_none None = []
@@ -26,4 +21,4 @@ name_at rows serial = name_or_none (row_at serial rows)
 -- the serials stand in byte order of the names
 pub record IsIndexed (rows : List FsRow) (names : List ℕ) : Type 0 where
   pub apart : AreRows rows
-  pub order : names ≡ map serial_in (by_name rows)
+  pub order : names ≡ map serial_in (ordered name_of rows)

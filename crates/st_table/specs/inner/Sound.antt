@@ -1,8 +1,8 @@
 -- what the two lists of the table have to do with each other
-use Rattle.std.specs.Prelude.{ℕ, ◌≡◌, List, map, Bool, true, false, ◌==◌, nat_eq, if◌then◌else◌, find, Option, Some, None}
-use Rattle.std.specs.List.{AllByRecursion, IsDistinct}
+use Rattle.std.specs.Prelude.{ℕ, ◌≡◌, List, map, Bool, true, false, ◌==◌, nat_eq, if◌then◌else◌, find, Option, Some, None, is_none, not, ◌||◌}
+use Rattle.std.specs.List.{AllByRecursion, IsDistinct, list_any}
 use Rattle.st_units.specs.declared.rows.DevRow.{DevRow}
-use Rattle.st_model.specs.Look.{Text, has_path}
+use Rattle.st_model.specs.Look.{Text, has_path, row_of}
 use Rattle.st_model.specs.Parts.{is_used}
 use Rattle.st_table.specs.declared.device.Device.{Device}
 use Rattle.st_table.specs.declared.halted.HaltedInfo.{HaltedInfo}
@@ -63,6 +63,10 @@ marked paths user device = if has_path (path_in device) paths then record device
 abbrev pub user_among : Option ℕ → List TablePool → Option TablePool
 user_among None pools = None
 user_among (Some user) pools = find (λ (pool : TablePool). pool.known.serial == user) pools
+
+-- none of the pools uses the device, or the rack doesn't have it
+abbrev pub is_free : List TablePool → List DevRow → Text → Bool
+is_free pools rows path = is_none (row_of path rows) || not (list_any (λ (pool : TablePool). is_used path pool.known) pools)
 
 -- what contracts see of the two lists
 pub record RosterView : Type 0 where

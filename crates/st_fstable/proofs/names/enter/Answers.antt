@@ -1,14 +1,15 @@
 use Rattle.std.proofs.Common.{ap, sym, ◌∙◌, Some, not}
 use Rattle.st_units.specs.declared.rows.FsRow.{FsRow}
 use Rattle.st_fstable.specs.Rows.{has_serial, without}
-use Rattle.st_fstable.specs.inner.ByName.{by_name}
+use Rattle.st_order.specs.Sorted.{ordered}
+use Rattle.st_fstable.specs.inner.ByName.{name_of}
 use Rattle.st_fstable.proofs.Serials.{apart_filtered}
 use Rattle.st_fstable.proofs.ByName.{rising_stand, others_stand, names_rise, never, come}
 use Rattle.st_fstable.proofs.names.enter.Goals as goal
 
 pub search_name-requires-clause-rising : goal.search_name-requires-clause-rising
 search_name-requires-clause-rising c =
-    rising_stand c.args.rows.now (by_name (without c.args.serial c.args.rows.now)) c.deref.result.now (c.deref.ensures.value ∙ c.requires.others)
+    rising_stand c.args.rows.now (ordered name_of (without c.args.serial c.args.rows.now)) c.deref.result.now (c.deref.ensures.value ∙ c.requires.others)
     (others_stand c.args.serial c.args.rows.now c.requires.rows)
     (names_rise (without c.args.serial c.args.rows.now) (apart_filtered (λ (y : FsRow). not (has_serial c.args.serial y)) c.args.rows.now c.requires.rows))
 

@@ -1,12 +1,13 @@
 use Rattle.std.proofs.Common.{ap, sym, ◌∙◌, Some}
 use Rattle.st_units.specs.declared.rows.FsRow.{FsRow}
-use Rattle.st_fstable.specs.inner.ByName.{by_name, IsIndexed}
+use Rattle.st_order.specs.Sorted.{ordered}
+use Rattle.st_fstable.specs.inner.ByName.{name_of, IsIndexed}
 use Rattle.st_fstable.proofs.ByName.{rising_stand, by_name_stand, names_rise, always, left}
 use Rattle.st_fstable.proofs.names.leave.Goals as goal
 
 pub search_name-requires-clause-rising : goal.search_name-requires-clause-rising
 search_name-requires-clause-rising c =
-    rising_stand c.args.rows.now (by_name c.args.rows.now) c.deref.result.now (c.deref.ensures.value ∙ c.requires.indexed.order)
+    rising_stand c.args.rows.now (ordered name_of c.args.rows.now) c.deref.result.now (c.deref.ensures.value ∙ c.requires.indexed.order)
     (by_name_stand c.args.rows.now c.requires.indexed.apart) (names_rise c.args.rows.now c.requires.indexed.apart)
 
 pub unreachable-requires : goal.unreachable-requires

@@ -1,6 +1,7 @@
 use Rattle.std.proofs.Common.{ap, sym, ◌∙◌, subst, map}
 use Rattle.st_fstable.specs.Rows.{AreRows, without}
-use Rattle.st_fstable.specs.inner.ByName.{by_name, serial_in}
+use Rattle.st_order.specs.Sorted.{ordered}
+use Rattle.st_fstable.specs.inner.ByName.{name_of, serial_in}
 use Rattle.st_fstable.proofs.Serials.{apart_last, without_last}
 use Rattle.st_fstable.proofs.table.put.Goals as goal
 
@@ -11,4 +12,4 @@ enter-requires-clause-rows c =
 pub enter-requires-clause-others : goal.enter-requires-clause-others
 enter-requires-clause-others c =
     let still = ap (without c.args.row.serial) (c.deref.ensures.value ∙ c.in-Ok.ensures.items) ∙ without_last c.args.row c.args.rows.now.items c.requires.serial in
-    c.requires.indexed.order ∙ sym (ap (λ ys. map serial_in (by_name ys)) still)
+    c.requires.indexed.order ∙ sym (ap (λ ys. map serial_in (ordered name_of ys)) still)

@@ -1,12 +1,13 @@
 use Rattle.std.proofs.Common.{ap, sym, ◌∙◌, Some}
-use Rattle.st_fstable.specs.inner.ByName.{by_name}
+use Rattle.st_order.specs.Sorted.{ordered}
+use Rattle.st_fstable.specs.inner.ByName.{name_of}
 use Rattle.st_fstable.proofs.ByName.{rising_stand, by_name_stand, names_rise, told, told_new, told_none}
 use Rattle.st_fstable.proofs.table.FsTable.find.Goals as goal
 
 pub search_name-requires-clause-rising : goal.search_name-requires-clause-rising
 search_name-requires-clause-rising c =
     let rows = c.self.inside.rows.items in
-    rw c.deref.ensures.value (rising_stand rows (by_name rows) c.deref-2.result.now (c.deref-2.ensures.value ∙ c.self.invariant.order) (by_name_stand rows c.self.invariant.apart) (names_rise rows c.self.invariant.apart))
+    rw c.deref.ensures.value (rising_stand rows (ordered name_of rows) c.deref-2.result.now (c.deref-2.ensures.value ∙ c.self.invariant.order) (by_name_stand rows c.self.invariant.apart) (names_rise rows c.self.invariant.apart))
 
 pub returns-in-Ok-clause-serial : goal.returns-in-Ok-clause-serial
 returns-in-Ok-clause-serial c =

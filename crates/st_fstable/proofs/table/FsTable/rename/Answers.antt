@@ -3,7 +3,8 @@ use Rattle.st_units.specs.declared.rows.FsRow.{FsRow}
 use Rattle.st_model.specs.steps.RenameFilesystem.{named}
 use Rattle.st_order.proofs.Lists.{any_less}
 use Rattle.st_fstable.specs.Rows.{AreRows, has_name, has_serial, is_called, is_there, without, changed}
-use Rattle.st_fstable.specs.inner.ByName.{by_name, serial_in}
+use Rattle.st_order.specs.Sorted.{ordered}
+use Rattle.st_fstable.specs.inner.ByName.{name_of, serial_in}
 use Rattle.st_fstable.proofs.ByName.{set_so}
 use Rattle.st_fstable.proofs.Serials.{apart_renamed, there_changed, without_changed}
 use Rattle.st_fstable.proofs.table.FsTable.rename.Goals as goal
@@ -26,7 +27,7 @@ pub enter-requires-clause-others : goal.enter-requires-clause-others
 enter-requires-clause-others c =
     let rows = c.self.inside.rows.items in
     let still = ap (without c.args.serial) (is c) ∙ without_changed (named c.args.name) (λ r. refl) c.args.serial rows in
-    c.leave.ensures.others ∙ (ap (λ ys. map serial_in (by_name (without c.args.serial ys))) c.deref.ensures.value ∙ sym (ap (λ ys. map serial_in (by_name ys)) still))
+    c.leave.ensures.others ∙ (ap (λ ys. map serial_in (ordered name_of (without c.args.serial ys))) c.deref.ensures.value ∙ sym (ap (λ ys. map serial_in (ordered name_of ys)) still))
 
 pub returns : goal.returns
 returns c =
