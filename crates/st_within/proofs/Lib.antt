@@ -1,0 +1,3 @@
+pub mod OnPool
+pub mod Outcomes
+pub mod Singly
