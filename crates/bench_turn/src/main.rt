@@ -7,7 +7,7 @@ use std::time::Instant;
 use std::{env, io};
 
 // How many turns there are in all, for each number of threads.
-const TURNS: u64 = 400_000;
+const TURNS: u64 = 4_000_000;
 
 fn main(rt: HostRuntime) -> io::Result<()> {
     if env::args(&rt)?.nth(1).is_none() {
