@@ -21,6 +21,7 @@ use Rattle.st_model.specs.steps.StopPool.{stop_pool}
 use Rattle.test_model.specs.Devices.{AddedOnce, CacheMadeOnce, HeldOnce, RepeatedOnce, SmallRefused}
 use Rattle.test_model.specs.Faults.{DeviceIsHeld, LimitsRise, NameIsHeld, SerialsRise}
 use Rattle.test_model.specs.Filesystems.{CreatedOnce, HandedOn, MarksCleared, WithinRoom}
+use Rattle.test_model.specs.Full.{MappingsEnd, NewIsReported, SpaceEnds}
 use Rattle.test_model.specs.Session.{OrdinarySession, SnapshotOutlives, UnwrittenIsZero}
 use Rattle.test_model.specs.Writing.{CacheCounts, CheckExtends, MergedAtStart, ReadsAreBounded, SharedIsKept}
 
@@ -107,3 +108,15 @@ serials-rise = refl
 pub limits-rise : LimitsRise
 unfolding create_plain create_answer on_pool set_fs_limit
 limits-rise = refl
+
+pub new-reported : NewIsReported
+unfolding create_plain create_answer on_pool pool_report pool_info
+new-reported = refl
+
+pub space-ends : SpaceEnds
+unfolding on_pool snapshot_filesystem fs_write
+space-ends = refl
+
+pub mappings-end : MappingsEnd
+unfolding on_pool create_filesystems snapshot_filesystem fs_write
+mappings-end = refl

@@ -22,7 +22,7 @@ p = 112 ∷ []
 abbrev pub a : Text
 a = 97 ∷ []
 
-abbrev b : Text
+abbrev pub b : Text
 b = 98 ∷ []
 
 abbrev pub s : Text

@@ -1,3 +1,4 @@
+pub mod Full
 pub mod Scripts
 pub mod Devices
 pub mod Filesystems

@@ -1,6 +1,7 @@
 ghost use Rattle.test_model.specs.Devices.{AddedOnce, CacheMadeOnce, HeldOnce, RepeatedOnce, SmallRefused};
 ghost use Rattle.test_model.specs.Faults.{DeviceIsHeld, LimitsRise, NameIsHeld, SerialsRise};
 ghost use Rattle.test_model.specs.Filesystems.{CreatedOnce, HandedOn, MarksCleared, WithinRoom};
+ghost use Rattle.test_model.specs.Full.{MappingsEnd, NewIsReported, SpaceEnds};
 ghost use Rattle.test_model.specs.Session.{OrdinarySession, SnapshotOutlives, UnwrittenIsZero};
 ghost use Rattle.test_model.specs.Writing.{CacheCounts, CheckExtends, MergedAtStart, ReadsAreBounded, SharedIsKept};
 
@@ -107,4 +108,19 @@ pub fn serials_are_given_once()
 /// The limit on filesystems never falls, and is at most 256.
 pub fn limits_on_filesystems_rise()
     ensures { LimitsRise }
+{}
+
+/// What a report says of a new pool.
+pub fn new_pools_are_reported()
+    ensures { NewIsReported }
+{}
+
+/// Where all blocks are written, a write to one more is refused, and so is a write over a shared one.
+pub fn space_ends()
+    ensures { SpaceEnds }
+{}
+
+/// Where all mappings are there, a snapshot and a write to a new block are refused; a write over a shared block is none more.
+pub fn mappings_end()
+    ensures { MappingsEnd }
 {}
