@@ -1,5 +1,5 @@
 -- a new pool, and pools that are full: of blocks, or of mappings
-use Rattle.std.specs.Prelude.{◌≡◌, ℕ, zero, suc, ◌+◌, List, [], ◌∷◌, ◌++◌, true, false, replicate, Some, None}
+use Rattle.std.specs.Prelude.{◌≡◌, ℕ, zero, suc, ◌+◌, List, [], ◌∷◌, true, false, replicate, Some, None}
 use Rattle.st_units.specs.declared.cause.Cause.TheVariants.{MappingFull, NoSpace}
 use Rattle.st_units.specs.declared.rows.DevRow.{DevRow}
 use Rattle.st_model.specs.declared.call.Call.TheVariants.{CreateFilesystems, FsWrite, PoolReport, SnapshotFilesystem}
