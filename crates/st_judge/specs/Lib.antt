@@ -1,0 +1,5 @@
+pub mod Candidates
+pub mod Spelled
+pub mod Placing
+pub mod Verdicts
+pub mod inner
