@@ -1,10 +1,13 @@
-ghost use Rattle.std.specs.Prelude.{◌≡◌, ◌+◌, ◌*◌, ◌%◌, ◌^◌, IfOk, string_bytes};
+ghost use Rattle.std.specs.Prelude.{◌≡◌, ◌+◌, ◌*◌, ◌%◌, ◌^◌, OnOk};
 ghost use Rattle.std.specs.Int.{to_be_bytes, w128};
+ghost use Rattle.serde_json.specs.Data.{string};
+ghost use Rattle.st_json.specs.Adds.{AddsData};
 ghost use Rattle.st_report.specs.Uuids.{uuid_of, uuid_text};
 
+use json::Writer;
+use st_json::put_text;
 use st_model::Identity;
 use st_units::NoMemory;
-use std::alloc::Global;
 use uuid::Uuid;
 
 /// The low half of a pool's UUID: its kind byte, 1, and no serial.
@@ -29,11 +32,12 @@ fn uuid_of(identity: Identity) -> Uuid
 
 /// The identity as a UUID: hyphenated, in lower case.
 #[tactic(auto, unfolding(crate::specs::Uuids::uuid_text))]
-pub fn uuid_text(alloc: Global, identity: Identity) -> Result<String, NoMemory>
-    ensures { IfOk result (λ text. string_bytes text ≡ uuid_text identity) }
+pub fn put_uuid(out: &mut Writer, identity: Identity) -> Result<(), NoMemory>
+    ensures { OnOk result (AddsData out.old out.new (string (uuid_text identity))) }
 {
     let mut buffer = Uuid::encode_buffer();
     let id = uuid_of(identity);
     let text = id.hyphenated().encode_lower(&mut buffer);
-    Ok(String::from_str(alloc, text)?)
+    put_text(out, text)?;
+    Ok(())
 }

@@ -1,12 +1,12 @@
-//! The reports of a pool and of the engine as JSON values, and identities in UUID form.
+//! The reports of a pool and of the engine as JSON, and identities in UUID form.
 #![tactic(auto)]
 
 mod engine;
 mod identity;
 mod pool;
-mod report;
 mod values;
 
-pub use identity::uuid_text;
-pub use report::{is_report, report_value};
-pub use values::{count_or_null, path_texts};
+pub use engine::put_engine;
+pub use identity::put_uuid;
+pub use pool::{put_pool, put_pools};
+pub use values::{put_count_or_null, put_paths};

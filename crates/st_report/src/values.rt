@@ -1,30 +1,39 @@
-ghost use Rattle.std.specs.Prelude.{◌≡◌, IfOk};
-ghost use Rattle.serde_json.specs.View.{view};
+ghost use Rattle.std.specs.Prelude.{map, OnOk};
+ghost use Rattle.serde_json.specs.Data.{string};
+ghost use Rattle.st_json.specs.Adds.{AddsData, AddsItems};
 ghost use Rattle.st_report.specs.Values.{count_or_null, texts};
 
-use serde_json::Value;
+use json::Writer;
+use st_json::{close_list, open_list, put_count, put_null, put_text};
 use st_units::{DevPath, NoMemory};
-use std::alloc::Global;
+
+fn put_each_path(out: &mut Writer, paths: &[DevPath]) -> Result<(), NoMemory>
+    ensures { OnOk result (AddsItems out.old out.new (map string paths.now)) }
+{
+    for path in paths {
+        put_text(out, path.as_str())?;
+    }
+    Ok(())
+}
 
 /// The paths as a list of strings.
 #[tactic(auto, unfolding(crate::specs::Values::texts))]
-pub fn path_texts(alloc: Global, paths: &[DevPath]) -> Result<Value, NoMemory>
-    ensures { IfOk result (λ value. view value ≡ texts paths.now) }
+pub fn put_paths(out: &mut Writer, paths: &[DevPath]) -> Result<(), NoMemory>
+    ensures { OnOk result (AddsData out.old out.new (texts paths.now)) }
 {
-    let mut list = Vec::new(alloc);
-    for path in paths {
-        list.push(Value::try_from_str(alloc, path.as_str())?)?;
-    }
-    Ok(Value::Array(list))
+    open_list(out)?;
+    put_each_path(out, paths)?;
+    close_list(out)?;
+    Ok(())
 }
 
 /// The number, or null where there is none.
 #[tactic(auto, unfolding(crate::specs::Values::count_or_null))]
-pub fn count_or_null(count: Option<u64>) -> Value
-    ensures { view result ≡ count_or_null count }
+pub fn put_count_or_null(out: &mut Writer, count: Option<u64>) -> Result<(), NoMemory>
+    ensures { OnOk result (AddsData out.old out.new (count_or_null count)) }
 {
     match count {
-        Some(count) => Value::from(count),
-        None => Value::Null,
+        Some(count) => put_count(out, count),
+        None => put_null(out),
     }
 }

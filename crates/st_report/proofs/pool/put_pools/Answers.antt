@@ -1,0 +1,7 @@
+use Rattle.st_report.specs.Pool.{pools_data}
+use Rattle.st_json.proofs.Lists.{adds_list}
+use Rattle.st_report.proofs.pool.put_pools.Goals as goal
+
+pub returns : goal.returns
+unfolding pools_data
+returns c = adds_list c.in_ok-open_list.ensures c.in_ok-put_each_pool.ensures c.in_ok-close_list.ensures
