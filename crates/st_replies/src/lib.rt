@@ -1,10 +1,11 @@
-//! Replies as JSON values, and the lines that answer a script.
+//! Replies as JSON, and the lines that answer a script.
 #![tactic(auto)]
 
 mod line;
+mod reply;
 mod result;
 mod text;
-mod value;
 
-pub use line::{Summary, json_line, not_built_line, reply_line, summary_line};
-pub use value::reply_value;
+pub use line::{Summary, not_built_line, reply_line, summary_line};
+pub use reply::put_reply;
+pub use result::put_bytes;

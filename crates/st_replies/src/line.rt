@@ -1,13 +1,11 @@
-ghost use Rattle.std.specs.Prelude.{◌≡◌, ◌++◌, IfOk, OnOk, string_bytes, decimal, false};
-ghost use Rattle.serde_json.specs.View.{view};
-ghost use Rattle.serde_json.specs.Written.{has_float};
+ghost use Rattle.std.specs.Prelude.{◌≡◌, ◌++◌, IfOk, OnOk, string_bytes, decimal};
+ghost use Rattle.st_replies.specs.Results.{result_data};
 ghost use Rattle.st_replies.specs.Shown.{json_line, line_data, reply_line, not_built_line, summary_line};
 
-use crate::result::result_value;
+use crate::reply::put_line;
 use crate::text::{one_value, text_of};
-use crate::value::line_value;
-use serde_json::Value;
-use st_model::Reply;
+use st_json::{line_of, new_line};
+use st_model::{Given, Reply};
 use st_units::{Bytes, ItemList, NoMemory};
 use std::alloc::Global;
 
@@ -26,28 +24,18 @@ pub struct Summary {
     pub read: u64,
 }
 
-/// A value without a float as a line: compact JSON and LF.
-pub fn json_line(alloc: Global, value: &Value) -> Result<Bytes, NoMemory>
-    requires { has_float (view value.now) ≡ false }
-    ensures { IfOk result (λ line. line ≡ json_line (view value.now)) }
-{
-    let mut text = value.to_string(alloc)?;
-    text.push_str("\n")?;
-    Ok(ItemList::of(text.into_bytes()))
-}
-
 fn answer_line(
     alloc: Global,
     code: u64,
     line: u64,
-    given: Value,
-    text: String,
+    given: &Option<Given>,
+    text: &str,
 ) -> Result<Bytes, NoMemory>
-    requires { has_float (view given) ≡ false }
-    ensures { IfOk result (λ bytes. bytes ≡ json_line (line_data code line (view given) (string_bytes text))) }
+    ensures { IfOk result (λ bytes. bytes ≡ json_line (line_data code line (result_data given.now) text.now)) }
 {
-    let value = line_value(alloc, code, line, given, text)?;
-    json_line(alloc, &value)
+    let mut out = new_line(alloc)?;
+    put_line(alloc, &mut out, code, line, given, text)?;
+    line_of(out)
 }
 
 /// The line that answers the line of this number: compact JSON and LF.
@@ -55,19 +43,24 @@ fn answer_line(
 pub fn reply_line(alloc: Global, line: u64, reply: &Reply) -> Result<Bytes, NoMemory>
     ensures { IfOk result (λ text. text ≡ reply_line line reply.now) }
 {
-    let given = result_value(alloc, reply)?;
     let text = text_of(alloc, &reply.cause)?;
-    answer_line(alloc, u64::from(reply.code), line, given, text)
+    answer_line(
+        alloc,
+        u64::from(reply.code),
+        line,
+        &reply.result,
+        text.as_str(),
+    )
 }
 
 /// The line that answers a call of this name which isn't built; no reply is made of it.
 /// This goes when all calls are built.
-#[tactic(auto, unfolding(crate::specs::Shown::not_built_line))]
+#[tactic(auto, unfolding(crate::specs::Shown::not_built_line, crate::specs::Results::result_data))]
 pub fn not_built_line(alloc: Global, line: u64, name: &str) -> Result<Bytes, NoMemory>
     ensures { IfOk result (λ text. text ≡ not_built_line line name.now) }
 {
     let text = one_value(alloc, "NotBuilt call=", name)?;
-    answer_line(alloc, 30, line, Value::Null, text)
+    answer_line(alloc, 30, line, &None, text.as_str())
 }
 
 /// Puts the label and the number behind it.

@@ -1,171 +1,112 @@
-ghost use Rattle.std.specs.Prelude.{◌≡◌, IfOk};
-ghost use Rattle.serde_json.specs.View.{view};
-ghost use Rattle.st_trace.specs.Traced.{mode_text, names_data, want_data, env_data, origin_data, entry_data, entries_data, arrive_data, grant_data, release_data, event_data, trace_line};
+ghost use Rattle.std.specs.Prelude.{◌≡◌, IfOk, OnOk, map};
+ghost use Rattle.st_json.specs.Adds.{AddsData, AddsItems};
+ghost use Rattle.st_trace.specs.Traced.{entry_data, entries_data, arrive_data, grant_data, release_data, event_data, trace_line};
 
-use crate::call::call_value;
-use crate::fs_call::name_texts;
-use crate::pool_call::text;
-use serde_json::{Map, Value, json, put};
+use crate::call::put_call;
+use crate::values::{put_env, put_origin, put_want};
+use json::Writer;
 use st_history::Event;
-use st_model::{Entry, Env, Origin};
-use st_replies::{json_line, reply_value};
-use st_units::{Bytes, Name, NoMemory};
-use st_wants::{Mode, Want};
+use st_json::{
+    close_list, close_object, count_member, line_of, new_line, open_list, open_object, put_key,
+    text_member,
+};
+use st_model::Entry;
+use st_replies::put_reply;
+use st_units::{Bytes, NoMemory};
+use st_wants::Want;
 use std::alloc::Global;
 
-fn mode_text(mode: Mode) -> &'static str
-    ensures { result.now ≡ mode_text mode }
-{
-    match mode {
-        Mode::Read => "read",
-        Mode::Write => "write",
-    }
-}
-
-/// One name alone, several as a list.
-#[tactic(auto, unfolding(crate::specs::Traced::names_data))]
-fn names_value(alloc: Global, names: &[Name]) -> Result<Value, NoMemory>
-    ensures { IfOk result (λ value. view value ≡ names_data names.now) }
-{
-    match names {
-        [name] => text(alloc, name.as_str()),
-        _ => name_texts(alloc, names),
-    }
-}
-
-#[tactic(auto, unfolding(crate::specs::Traced::want_data))]
-fn want_value(alloc: Global, want: &Want) -> Result<Value, NoMemory>
-    ensures { IfOk result (λ value. view value ≡ want_data want.now) }
-{
-    match want {
-        Want::Some(names, mode) => {
-            let names = names_value(alloc, names.list().items())?;
-            let mode = mode_text(*mode);
-            Ok(json!(in alloc; ["some", names, mode])?)
-        }
-        Want::All(mode) => {
-            let mode = mode_text(*mode);
-            Ok(json!(in alloc; ["all", mode])?)
-        }
-    }
-}
-
-#[tactic(auto, unfolding(crate::specs::Traced::env_data))]
-fn env_value(alloc: Global, env: &Env) -> Result<Value, NoMemory>
-    ensures { IfOk result (λ value. view value ≡ env_data env.now) }
-{
-    match env {
-        Env::Plain => text(alloc, "none"),
-        Env::NoMem => text(alloc, "nomem"),
-        Env::FaultRead => text(alloc, "fault-read"),
-        Env::FaultWrite => text(alloc, "fault-write"),
-        Env::After => Ok(json!(in alloc; ["found", "after"])?),
-        Env::Before(bytes) => {
-            let digits = hex::encode(alloc, bytes.items())?;
-            Ok(json!(in alloc; ["found", "before", digits])?)
-        }
-    }
-}
-
-#[tactic(auto, unfolding(crate::specs::Traced::origin_data))]
-fn origin_value(alloc: Global, origin: Origin) -> Result<Value, NoMemory>
-    ensures { IfOk result (λ value. view value ≡ origin_data origin) }
-{
-    match origin {
-        Origin::Line(number) => Ok(Value::from(number)),
-        Origin::Event => text(alloc, "event"),
-        Origin::Prepare => text(alloc, "prepare"),
-        Origin::Close => text(alloc, "close"),
-    }
-}
-
 #[tactic(auto, unfolding(crate::specs::Traced::entry_data))]
-fn entry_value(alloc: Global, entry: &Entry) -> Result<Value, NoMemory>
-    ensures { IfOk result (λ value. view value ≡ entry_data entry.now) }
+fn put_entry(alloc: Global, out: &mut Writer, entry: &Entry) -> Result<(), NoMemory>
+    ensures { OnOk result (AddsData out.old out.new (entry_data entry.now)) }
 {
-    let mut members = Map::new(alloc);
-    put(&mut members, alloc, "call", call_value(alloc, &entry.call)?)?;
-    put(&mut members, alloc, "env", env_value(alloc, &entry.env)?)?;
-    put(
-        &mut members,
-        alloc,
-        "from",
-        origin_value(alloc, entry.from)?,
-    )?;
-    put(
-        &mut members,
-        alloc,
-        "reply",
-        reply_value(alloc, &entry.reply)?,
-    )?;
-    Ok(Value::Object(members))
+    open_object(out)?;
+    put_key(out, "call")?;
+    put_call(alloc, out, &entry.call)?;
+    put_key(out, "env")?;
+    put_env(alloc, out, &entry.env)?;
+    put_key(out, "from")?;
+    put_origin(out, entry.from)?;
+    put_key(out, "reply")?;
+    put_reply(alloc, out, &entry.reply)?;
+    close_object(out)?;
+    Ok(())
+}
+
+fn put_each_entry(alloc: Global, out: &mut Writer, entries: &[Entry]) -> Result<(), NoMemory>
+    ensures { OnOk result (AddsItems out.old out.new (map entry_data entries.now)) }
+{
+    for entry in entries {
+        put_entry(alloc, out, entry)?;
+    }
+    Ok(())
 }
 
 #[tactic(auto, unfolding(crate::specs::Traced::entries_data))]
-fn entries_value(alloc: Global, entries: &[Entry]) -> Result<Value, NoMemory>
-    ensures { IfOk result (λ value. view value ≡ entries_data entries.now) }
+fn put_entries(alloc: Global, out: &mut Writer, entries: &[Entry]) -> Result<(), NoMemory>
+    ensures { OnOk result (AddsData out.old out.new (entries_data entries.now)) }
 {
-    let mut list = Vec::new(alloc);
-    for entry in entries {
-        list.push(entry_value(alloc, entry)?)?;
-    }
-    Ok(Value::Array(list))
+    open_list(out)?;
+    put_each_entry(alloc, out, entries)?;
+    close_list(out)?;
+    Ok(())
 }
 
 #[tactic(auto, unfolding(crate::specs::Traced::arrive_data))]
-fn arrive_value(alloc: Global, seat: u64, ticket: u64, want: &Want) -> Result<Value, NoMemory>
-    ensures { IfOk result (λ value. view value ≡ arrive_data seat ticket want.now) }
+fn put_arrive(out: &mut Writer, seat: u64, ticket: u64, want: &Want) -> Result<(), NoMemory>
+    ensures { OnOk result (AddsData out.old out.new (arrive_data seat ticket want.now)) }
 {
-    let mut members = Map::new(alloc);
-    put(&mut members, alloc, "event", text(alloc, "arrive")?)?;
-    put(&mut members, alloc, "seat", Value::from(seat))?;
-    put(&mut members, alloc, "ticket", Value::from(ticket))?;
-    put(&mut members, alloc, "want", want_value(alloc, want)?)?;
-    Ok(Value::Object(members))
+    open_object(out)?;
+    text_member(out, "event", "arrive")?;
+    count_member(out, "seat", seat)?;
+    count_member(out, "ticket", ticket)?;
+    put_key(out, "want")?;
+    put_want(out, want)?;
+    close_object(out)?;
+    Ok(())
 }
 
 #[tactic(auto, unfolding(crate::specs::Traced::grant_data))]
-fn grant_value(alloc: Global, seat: u64, ticket: u64) -> Result<Value, NoMemory>
-    ensures { IfOk result (λ value. view value ≡ grant_data seat ticket) }
+fn put_grant(out: &mut Writer, seat: u64, ticket: u64) -> Result<(), NoMemory>
+    ensures { OnOk result (AddsData out.old out.new (grant_data seat ticket)) }
 {
-    let mut members = Map::new(alloc);
-    put(&mut members, alloc, "event", text(alloc, "grant")?)?;
-    put(&mut members, alloc, "seat", Value::from(seat))?;
-    put(&mut members, alloc, "ticket", Value::from(ticket))?;
-    Ok(Value::Object(members))
+    open_object(out)?;
+    text_member(out, "event", "grant")?;
+    count_member(out, "seat", seat)?;
+    count_member(out, "ticket", ticket)?;
+    close_object(out)?;
+    Ok(())
 }
 
 #[tactic(auto, unfolding(crate::specs::Traced::release_data))]
-fn release_value(
+fn put_release(
     alloc: Global,
+    out: &mut Writer,
     seat: u64,
     ticket: u64,
     entries: &[Entry],
-) -> Result<Value, NoMemory>
-    ensures { IfOk result (λ value. view value ≡ release_data seat ticket entries.now) }
+) -> Result<(), NoMemory>
+    ensures { OnOk result (AddsData out.old out.new (release_data seat ticket entries.now)) }
 {
-    let mut members = Map::new(alloc);
-    put(
-        &mut members,
-        alloc,
-        "entries",
-        entries_value(alloc, entries)?,
-    )?;
-    put(&mut members, alloc, "event", text(alloc, "release")?)?;
-    put(&mut members, alloc, "seat", Value::from(seat))?;
-    put(&mut members, alloc, "ticket", Value::from(ticket))?;
-    Ok(Value::Object(members))
+    open_object(out)?;
+    put_key(out, "entries")?;
+    put_entries(alloc, out, entries)?;
+    text_member(out, "event", "release")?;
+    count_member(out, "seat", seat)?;
+    count_member(out, "ticket", ticket)?;
+    close_object(out)?;
+    Ok(())
 }
 
 #[tactic(auto, unfolding(crate::specs::Traced::event_data))]
-fn event_value(alloc: Global, event: &Event) -> Result<Value, NoMemory>
-    ensures { IfOk result (λ value. view value ≡ event_data event.now) }
+fn put_event(alloc: Global, out: &mut Writer, event: &Event) -> Result<(), NoMemory>
+    ensures { OnOk result (AddsData out.old out.new (event_data event.now)) }
 {
     match event {
-        Event::Arrive(seat, ticket, want) => arrive_value(alloc, *seat, *ticket, want),
-        Event::Grant(seat, ticket) => grant_value(alloc, *seat, *ticket),
+        Event::Arrive(seat, ticket, want) => put_arrive(out, *seat, *ticket, want),
+        Event::Grant(seat, ticket) => put_grant(out, *seat, *ticket),
         Event::Release(seat, ticket, entries) => {
-            release_value(alloc, *seat, *ticket, entries.items())
+            put_release(alloc, out, *seat, *ticket, entries.items())
         }
     }
 }
@@ -175,6 +116,7 @@ fn event_value(alloc: Global, event: &Event) -> Result<Value, NoMemory>
 pub fn trace_line(alloc: Global, event: &Event) -> Result<Bytes, NoMemory>
     ensures { IfOk result (λ line. line ≡ trace_line event.now) }
 {
-    let value = event_value(alloc, event)?;
-    json_line(alloc, &value)
+    let mut out = new_line(alloc)?;
+    put_event(alloc, &mut out, event)?;
+    line_of(out)
 }

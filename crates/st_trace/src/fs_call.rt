@@ -1,298 +1,212 @@
-ghost use Rattle.std.specs.Prelude.{◌≡◌, IfOk};
-ghost use Rattle.serde_json.specs.View.{view};
+ghost use Rattle.std.specs.Prelude.{OnOk, map};
+ghost use Rattle.serde_json.specs.Data.{string};
+ghost use Rattle.st_json.specs.Adds.{AddsData, AddsItems};
 ghost use Rattle.st_report.specs.Values.{texts};
-ghost use Rattle.st_trace.specs.Calls.{fs_spec, fs_specs, create_fs_call, destroy_fs_call, snapshot_call, rename_fs_call, size_limit_call, fs_limit_call, overprovisioning_call, merge_call, reports_call, fill_call, hex_call, write_data, read_call};
+ghost use Rattle.st_trace.specs.Calls.{fs_spec, fs_specs, create_fs_call, destroy_fs_call, snapshot_call, rename_fs_call, size_limit_call, fs_limit_call, overprovisioning_call, merge_call, reports_call};
 
-use crate::pool_call::text;
-use serde_json::{Map, Value, put};
-use st_model::Payload;
-use st_report::count_or_null;
-use st_units::{Bytes, FsSpec, FsSpecList, Name, NameList, NoMemory};
-use std::alloc::Global;
+use json::Writer;
+use st_json::{
+    bool_member, close_list, close_object, count_member, name_member, open_list, open_object,
+    put_key, put_name, text_member,
+};
+use st_report::put_count_or_null;
+use st_units::{FsSpec, FsSpecList, Name, NameList, NoMemory};
 
 #[tactic(auto, unfolding(crate::specs::Calls::fs_spec))]
-fn fs_spec(alloc: Global, fs: &FsSpec) -> Result<Value, NoMemory>
-    ensures { IfOk result (λ value. view value ≡ fs_spec fs.now) }
+fn put_spec(out: &mut Writer, fs: &FsSpec) -> Result<(), NoMemory>
+    ensures { OnOk result (AddsData out.old out.new (fs_spec fs.now)) }
 {
-    let mut members = Map::new(alloc);
-    put(&mut members, alloc, "limit", count_or_null(fs.limit))?;
-    put(&mut members, alloc, "name", text(alloc, fs.name.as_str())?)?;
-    put(&mut members, alloc, "size", count_or_null(fs.size))?;
-    Ok(Value::Object(members))
+    open_object(out)?;
+    put_key(out, "limit")?;
+    put_count_or_null(out, fs.limit)?;
+    name_member(out, "name", &fs.name)?;
+    put_key(out, "size")?;
+    put_count_or_null(out, fs.size)?;
+    close_object(out)?;
+    Ok(())
+}
+
+fn put_each_spec(out: &mut Writer, filesystems: &[FsSpec]) -> Result<(), NoMemory>
+    ensures { OnOk result (AddsItems out.old out.new (map fs_spec filesystems.now)) }
+{
+    for fs in filesystems {
+        put_spec(out, fs)?;
+    }
+    Ok(())
 }
 
 #[tactic(auto, unfolding(crate::specs::Calls::fs_specs))]
-fn fs_specs(alloc: Global, filesystems: &[FsSpec]) -> Result<Value, NoMemory>
-    ensures { IfOk result (λ value. view value ≡ fs_specs filesystems.now) }
+fn put_specs(out: &mut Writer, filesystems: &[FsSpec]) -> Result<(), NoMemory>
+    ensures { OnOk result (AddsData out.old out.new (fs_specs filesystems.now)) }
 {
-    let mut list = Vec::new(alloc);
-    for fs in filesystems {
-        list.push(fs_spec(alloc, fs)?)?;
+    open_list(out)?;
+    put_each_spec(out, filesystems)?;
+    close_list(out)?;
+    Ok(())
+}
+
+fn put_each_name(out: &mut Writer, names: &[Name]) -> Result<(), NoMemory>
+    ensures { OnOk result (AddsItems out.old out.new (map string names.now)) }
+{
+    for name in names {
+        put_name(out, name)?;
     }
-    Ok(Value::Array(list))
+    Ok(())
 }
 
 #[tactic(auto, unfolding(st_report::specs::Values::texts))]
-pub(crate) fn name_texts(alloc: Global, names: &[Name]) -> Result<Value, NoMemory>
-    ensures { IfOk result (λ value. view value ≡ texts names.now) }
+pub(crate) fn put_names(out: &mut Writer, names: &[Name]) -> Result<(), NoMemory>
+    ensures { OnOk result (AddsData out.old out.new (texts names.now)) }
 {
-    let mut list = Vec::new(alloc);
-    for name in names {
-        list.push(text(alloc, name.as_str())?)?;
-    }
-    Ok(Value::Array(list))
+    open_list(out)?;
+    put_each_name(out, names)?;
+    close_list(out)?;
+    Ok(())
 }
 
 #[tactic(auto, unfolding(crate::specs::Calls::create_fs_call))]
-pub(crate) fn create_fs_call(
-    alloc: Global,
+pub(crate) fn put_create_fs(
+    out: &mut Writer,
     pool: &Name,
     filesystems: &FsSpecList,
-) -> Result<Value, NoMemory>
-    ensures { IfOk result (λ value. view value ≡ create_fs_call pool.now filesystems.now) }
+) -> Result<(), NoMemory>
+    ensures { OnOk result (AddsData out.old out.new (create_fs_call pool.now filesystems.now)) }
 {
-    let mut members = Map::new(alloc);
-    put(
-        &mut members,
-        alloc,
-        "call",
-        text(alloc, "CreateFilesystems")?,
-    )?;
-    put(
-        &mut members,
-        alloc,
-        "filesystems",
-        fs_specs(alloc, filesystems.items())?,
-    )?;
-    put(&mut members, alloc, "pool", text(alloc, pool.as_str())?)?;
-    Ok(Value::Object(members))
+    open_object(out)?;
+    text_member(out, "call", "CreateFilesystems")?;
+    put_key(out, "filesystems")?;
+    put_specs(out, filesystems.items())?;
+    name_member(out, "pool", pool)?;
+    close_object(out)?;
+    Ok(())
 }
 
 #[tactic(auto, unfolding(crate::specs::Calls::destroy_fs_call))]
-pub(crate) fn destroy_fs_call(
-    alloc: Global,
+pub(crate) fn put_destroy_fs(
+    out: &mut Writer,
     pool: &Name,
     names: &NameList,
-) -> Result<Value, NoMemory>
-    ensures { IfOk result (λ value. view value ≡ destroy_fs_call pool.now names.now) }
+) -> Result<(), NoMemory>
+    ensures { OnOk result (AddsData out.old out.new (destroy_fs_call pool.now names.now)) }
 {
-    let mut members = Map::new(alloc);
-    put(
-        &mut members,
-        alloc,
-        "call",
-        text(alloc, "DestroyFilesystems")?,
-    )?;
-    put(
-        &mut members,
-        alloc,
-        "names",
-        name_texts(alloc, names.items())?,
-    )?;
-    put(&mut members, alloc, "pool", text(alloc, pool.as_str())?)?;
-    Ok(Value::Object(members))
+    open_object(out)?;
+    text_member(out, "call", "DestroyFilesystems")?;
+    put_key(out, "names")?;
+    put_names(out, names.items())?;
+    name_member(out, "pool", pool)?;
+    close_object(out)?;
+    Ok(())
 }
 
 #[tactic(auto, unfolding(crate::specs::Calls::snapshot_call))]
-pub(crate) fn snapshot_call(
-    alloc: Global,
+pub(crate) fn put_snapshot(
+    out: &mut Writer,
     pool: &Name,
     origin: &Name,
     name: &Name,
-) -> Result<Value, NoMemory>
-    ensures { IfOk result (λ value. view value ≡ snapshot_call pool.now origin.now name.now) }
+) -> Result<(), NoMemory>
+    ensures { OnOk result (AddsData out.old out.new (snapshot_call pool.now origin.now name.now)) }
 {
-    let mut members = Map::new(alloc);
-    put(
-        &mut members,
-        alloc,
-        "call",
-        text(alloc, "SnapshotFilesystem")?,
-    )?;
-    put(&mut members, alloc, "name", text(alloc, name.as_str())?)?;
-    put(&mut members, alloc, "origin", text(alloc, origin.as_str())?)?;
-    put(&mut members, alloc, "pool", text(alloc, pool.as_str())?)?;
-    Ok(Value::Object(members))
+    open_object(out)?;
+    text_member(out, "call", "SnapshotFilesystem")?;
+    name_member(out, "name", name)?;
+    name_member(out, "origin", origin)?;
+    name_member(out, "pool", pool)?;
+    close_object(out)?;
+    Ok(())
 }
 
 #[tactic(auto, unfolding(crate::specs::Calls::rename_fs_call))]
-pub(crate) fn rename_fs_call(
-    alloc: Global,
+pub(crate) fn put_rename_fs(
+    out: &mut Writer,
     pool: &Name,
     name: &Name,
     new: &Name,
-) -> Result<Value, NoMemory>
-    ensures { IfOk result (λ value. view value ≡ rename_fs_call pool.now name.now new.now) }
+) -> Result<(), NoMemory>
+    ensures { OnOk result (AddsData out.old out.new (rename_fs_call pool.now name.now new.now)) }
 {
-    let mut members = Map::new(alloc);
-    put(
-        &mut members,
-        alloc,
-        "call",
-        text(alloc, "RenameFilesystem")?,
-    )?;
-    put(&mut members, alloc, "name", text(alloc, name.as_str())?)?;
-    put(&mut members, alloc, "new", text(alloc, new.as_str())?)?;
-    put(&mut members, alloc, "pool", text(alloc, pool.as_str())?)?;
-    Ok(Value::Object(members))
+    open_object(out)?;
+    text_member(out, "call", "RenameFilesystem")?;
+    name_member(out, "name", name)?;
+    name_member(out, "new", new)?;
+    name_member(out, "pool", pool)?;
+    close_object(out)?;
+    Ok(())
 }
 
 #[tactic(auto, unfolding(crate::specs::Calls::size_limit_call))]
-pub(crate) fn size_limit_call(
-    alloc: Global,
+pub(crate) fn put_size_limit(
+    out: &mut Writer,
     pool: &Name,
     name: &Name,
     limit: Option<u64>,
-) -> Result<Value, NoMemory>
-    ensures { IfOk result (λ value. view value ≡ size_limit_call pool.now name.now limit) }
+) -> Result<(), NoMemory>
+    ensures { OnOk result (AddsData out.old out.new (size_limit_call pool.now name.now limit)) }
 {
-    let mut members = Map::new(alloc);
-    put(&mut members, alloc, "call", text(alloc, "SetSizeLimit")?)?;
-    put(&mut members, alloc, "limit", count_or_null(limit))?;
-    put(&mut members, alloc, "name", text(alloc, name.as_str())?)?;
-    put(&mut members, alloc, "pool", text(alloc, pool.as_str())?)?;
-    Ok(Value::Object(members))
+    open_object(out)?;
+    text_member(out, "call", "SetSizeLimit")?;
+    put_key(out, "limit")?;
+    put_count_or_null(out, limit)?;
+    name_member(out, "name", name)?;
+    name_member(out, "pool", pool)?;
+    close_object(out)?;
+    Ok(())
 }
 
 #[tactic(auto, unfolding(crate::specs::Calls::fs_limit_call))]
-pub(crate) fn fs_limit_call(alloc: Global, pool: &Name, limit: u64) -> Result<Value, NoMemory>
-    ensures { IfOk result (λ value. view value ≡ fs_limit_call pool.now limit) }
+pub(crate) fn put_fs_limit(out: &mut Writer, pool: &Name, limit: u64) -> Result<(), NoMemory>
+    ensures { OnOk result (AddsData out.old out.new (fs_limit_call pool.now limit)) }
 {
-    let mut members = Map::new(alloc);
-    put(&mut members, alloc, "call", text(alloc, "SetFsLimit")?)?;
-    put(&mut members, alloc, "limit", Value::from(limit))?;
-    put(&mut members, alloc, "pool", text(alloc, pool.as_str())?)?;
-    Ok(Value::Object(members))
+    open_object(out)?;
+    text_member(out, "call", "SetFsLimit")?;
+    count_member(out, "limit", limit)?;
+    name_member(out, "pool", pool)?;
+    close_object(out)?;
+    Ok(())
 }
 
 #[tactic(auto, unfolding(crate::specs::Calls::overprovisioning_call))]
-pub(crate) fn overprovisioning_call(
-    alloc: Global,
+pub(crate) fn put_overprovisioning(
+    out: &mut Writer,
     pool: &Name,
     value: bool,
-) -> Result<Value, NoMemory>
-    ensures { IfOk result (λ made. view made ≡ overprovisioning_call pool.now value) }
+) -> Result<(), NoMemory>
+    ensures { OnOk result (AddsData out.old out.new (overprovisioning_call pool.now value)) }
 {
-    let mut members = Map::new(alloc);
-    put(
-        &mut members,
-        alloc,
-        "call",
-        text(alloc, "SetOverprovisioning")?,
-    )?;
-    put(&mut members, alloc, "pool", text(alloc, pool.as_str())?)?;
-    put(&mut members, alloc, "value", Value::from(value))?;
-    Ok(Value::Object(members))
+    open_object(out)?;
+    text_member(out, "call", "SetOverprovisioning")?;
+    name_member(out, "pool", pool)?;
+    bool_member(out, "value", value)?;
+    close_object(out)?;
+    Ok(())
 }
 
 #[tactic(auto, unfolding(crate::specs::Calls::merge_call))]
-pub(crate) fn merge_call(
-    alloc: Global,
+pub(crate) fn put_merge(
+    out: &mut Writer,
     pool: &Name,
     name: &Name,
     value: bool,
-) -> Result<Value, NoMemory>
-    ensures { IfOk result (λ made. view made ≡ merge_call pool.now name.now value) }
+) -> Result<(), NoMemory>
+    ensures { OnOk result (AddsData out.old out.new (merge_call pool.now name.now value)) }
 {
-    let mut members = Map::new(alloc);
-    put(&mut members, alloc, "call", text(alloc, "SetMerge")?)?;
-    put(&mut members, alloc, "name", text(alloc, name.as_str())?)?;
-    put(&mut members, alloc, "pool", text(alloc, pool.as_str())?)?;
-    put(&mut members, alloc, "value", Value::from(value))?;
-    Ok(Value::Object(members))
+    open_object(out)?;
+    text_member(out, "call", "SetMerge")?;
+    name_member(out, "name", name)?;
+    name_member(out, "pool", pool)?;
+    bool_member(out, "value", value)?;
+    close_object(out)?;
+    Ok(())
 }
 
 #[tactic(auto, unfolding(crate::specs::Calls::reports_call))]
-pub(crate) fn reports_call(alloc: Global, pools: &NameList) -> Result<Value, NoMemory>
-    ensures { IfOk result (λ value. view value ≡ reports_call pools.now) }
+pub(crate) fn put_reports(out: &mut Writer, pools: &NameList) -> Result<(), NoMemory>
+    ensures { OnOk result (AddsData out.old out.new (reports_call pools.now)) }
 {
-    let mut members = Map::new(alloc);
-    put(&mut members, alloc, "call", text(alloc, "PoolReports")?)?;
-    put(
-        &mut members,
-        alloc,
-        "pools",
-        name_texts(alloc, pools.items())?,
-    )?;
-    Ok(Value::Object(members))
-}
-
-#[tactic(auto, unfolding(crate::specs::Calls::fill_call))]
-fn fill_call(
-    alloc: Global,
-    pool: &Name,
-    name: &Name,
-    sector: u64,
-    byte: u8,
-    sectors: u64,
-) -> Result<Value, NoMemory>
-    ensures { IfOk result (λ value. view value ≡ fill_call pool.now name.now sector byte sectors) }
-{
-    let mut members = Map::new(alloc);
-    put(&mut members, alloc, "call", text(alloc, "FsWrite")?)?;
-    put(&mut members, alloc, "fill", Value::from(u64::from(byte)))?;
-    put(&mut members, alloc, "name", text(alloc, name.as_str())?)?;
-    put(&mut members, alloc, "pool", text(alloc, pool.as_str())?)?;
-    put(&mut members, alloc, "sector", Value::from(sector))?;
-    put(&mut members, alloc, "sectors", Value::from(sectors))?;
-    Ok(Value::Object(members))
-}
-
-#[tactic(auto, unfolding(crate::specs::Calls::hex_call))]
-fn hex_call(
-    alloc: Global,
-    pool: &Name,
-    name: &Name,
-    sector: u64,
-    bytes: &Bytes,
-) -> Result<Value, NoMemory>
-    ensures { IfOk result (λ value. view value ≡ hex_call pool.now name.now sector bytes.now) }
-{
-    let mut members = Map::new(alloc);
-    put(&mut members, alloc, "call", text(alloc, "FsWrite")?)?;
-    put(
-        &mut members,
-        alloc,
-        "hex",
-        Value::String(hex::encode(alloc, bytes.items())?),
-    )?;
-    put(&mut members, alloc, "name", text(alloc, name.as_str())?)?;
-    put(&mut members, alloc, "pool", text(alloc, pool.as_str())?)?;
-    put(&mut members, alloc, "sector", Value::from(sector))?;
-    Ok(Value::Object(members))
-}
-
-#[tactic(auto, unfolding(crate::specs::Calls::write_data))]
-pub(crate) fn write_value(
-    alloc: Global,
-    pool: &Name,
-    name: &Name,
-    sector: u64,
-    payload: &Payload,
-) -> Result<Value, NoMemory>
-    ensures { IfOk result (λ value. view value ≡ write_data pool.now name.now sector payload.now) }
-{
-    match payload {
-        Payload::Fill(byte, sectors) => fill_call(alloc, pool, name, sector, *byte, *sectors),
-        Payload::Given(bytes) => hex_call(alloc, pool, name, sector, bytes),
-    }
-}
-
-#[tactic(auto, unfolding(crate::specs::Calls::read_call))]
-pub(crate) fn read_call(
-    alloc: Global,
-    pool: &Name,
-    name: &Name,
-    sector: u64,
-    sectors: u64,
-) -> Result<Value, NoMemory>
-    ensures { IfOk result (λ value. view value ≡ read_call pool.now name.now sector sectors) }
-{
-    let mut members = Map::new(alloc);
-    put(&mut members, alloc, "call", text(alloc, "FsRead")?)?;
-    put(&mut members, alloc, "name", text(alloc, name.as_str())?)?;
-    put(&mut members, alloc, "pool", text(alloc, pool.as_str())?)?;
-    put(&mut members, alloc, "sector", Value::from(sector))?;
-    put(&mut members, alloc, "sectors", Value::from(sectors))?;
-    Ok(Value::Object(members))
+    open_object(out)?;
+    text_member(out, "call", "PoolReports")?;
+    put_key(out, "pools")?;
+    put_names(out, pools.items())?;
+    close_object(out)?;
+    Ok(())
 }

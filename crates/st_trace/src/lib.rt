@@ -5,5 +5,7 @@ mod call;
 mod event;
 mod fs_call;
 mod pool_call;
+mod sector_call;
+mod values;
 
 pub use event::trace_line;

@@ -1,0 +1,13 @@
+use Rattle.st_replies.specs.Shown.{line_data}
+use Rattle.st_json.proofs.Objects.{adds_close, adds_key, adds_member, adds_object}
+use Rattle.st_replies.proofs.reply.put_line.Goals as goal
+
+pub returns : goal.returns
+unfolding line_data
+returns c =
+    adds_object c.in_ok-open_object.ensures (
+    adds_member c.in_ok-count_member.ensures (
+    adds_member c.in_ok-count_member-2.ensures (
+    adds_member (adds_key c.in_ok-put_key.ensures c.in_ok-put_result.ensures) (
+    adds_member c.in_ok-text_member.ensures (
+    adds_close c.in_ok-close_object.ensures)))))

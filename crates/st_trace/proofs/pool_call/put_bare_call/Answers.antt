@@ -1,0 +1,10 @@
+use Rattle.st_trace.specs.Calls.{bare_call}
+use Rattle.st_json.proofs.Objects.{adds_close, adds_member, adds_object}
+use Rattle.st_trace.proofs.pool_call.put_bare_call.Goals as goal
+
+pub returns : goal.returns
+unfolding bare_call
+returns c =
+    adds_object c.in_ok-open_object.ensures (
+    adds_member c.in_ok-text_member.ensures (
+    adds_close c.in_ok-close_object.ensures))

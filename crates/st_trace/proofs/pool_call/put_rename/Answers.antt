@@ -1,0 +1,12 @@
+use Rattle.st_trace.specs.Calls.{rename_call}
+use Rattle.st_json.proofs.Objects.{adds_close, adds_member, adds_object}
+use Rattle.st_trace.proofs.pool_call.put_rename.Goals as goal
+
+pub returns : goal.returns
+unfolding rename_call
+returns c =
+    adds_object c.in_ok-open_object.ensures (
+    adds_member c.in_ok-text_member.ensures (
+    adds_member c.in_ok-name_member.ensures (
+    adds_member c.in_ok-name_member-2.ensures (
+    adds_close c.in_ok-close_object.ensures))))

@@ -1,0 +1,12 @@
+use Rattle.st_trace.specs.Calls.{start_call}
+use Rattle.st_json.proofs.Objects.{adds_close, adds_member, adds_object}
+use Rattle.st_trace.proofs.pool_call.put_start_call.Goals as goal
+
+pub returns : goal.returns
+unfolding start_call
+returns c =
+    adds_object c.in_ok-open_object.ensures (
+    adds_member c.in_ok-text_member.ensures (
+    adds_member c.in_ok-text_member-2.ensures (
+    adds_member c.in_ok-text_member-3.ensures (
+    adds_close c.in_ok-close_object.ensures))))

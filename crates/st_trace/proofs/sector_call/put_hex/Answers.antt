@@ -1,0 +1,14 @@
+use Rattle.st_trace.specs.Calls.{hex_call}
+use Rattle.st_json.proofs.Objects.{adds_close, adds_key, adds_member, adds_object}
+use Rattle.st_trace.proofs.sector_call.put_hex.Goals as goal
+
+pub returns : goal.returns
+unfolding hex_call
+returns c =
+    adds_object c.in_ok-open_object.ensures (
+    adds_member c.in_ok-text_member.ensures (
+    adds_member (adds_key c.in_ok-put_key.ensures c.in_ok-put_bytes.ensures) (
+    adds_member c.in_ok-name_member.ensures (
+    adds_member c.in_ok-name_member-2.ensures (
+    adds_member c.in_ok-count_member.ensures (
+    adds_close c.in_ok-close_object.ensures))))))
