@@ -1,0 +1,11 @@
+pub mod Standing
+pub mod Stepping
+pub mod Answering
+pub mod Surviving
+pub mod Running
+pub mod Committing
+pub mod Renamed
+pub mod NextCommit
+pub mod Halting
+pub mod RenameEnds
+pub mod Commits

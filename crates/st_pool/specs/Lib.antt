@@ -1,0 +1,6 @@
+pub mod View
+pub mod Known
+pub mod Answered
+pub mod Runs
+pub mod Halts
+pub mod inner
