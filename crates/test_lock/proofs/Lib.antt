@@ -1,2 +1,4 @@
-mod Refusals
-mod Opened
+pub mod Opened
+pub mod Refusals
+pub mod Later
+pub mod Created

@@ -4,7 +4,6 @@ use Rattle.std.specs.List.Sorted.{IsStrictlySortedBy}
 use Rattle.std.specs.Ordering.{nat_cmp}
 use Rattle.std.specs.Cmp.Lexicographic.{slice_cmp}
 use Rattle.st_units.specs.declared.rows.DevRow.{DevRow}
-use Rattle.st_model.specs.declared.state.EngineState.{EngineState}
 use Rattle.st_model.specs.Parts.{table_of}
 use Rattle.st_model.specs.Valid.{IsValid}
 use Rattle.st_plain.specs.Parts.{opening}

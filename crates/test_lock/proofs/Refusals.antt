@@ -1,5 +1,5 @@
 -- what a call that is refused memory owes at its release
-use Rattle.std.proofs.Common.{ℕ, ◌≡◌, ◌≤◌, ◌<◌, ◌^◌, ◌+◌, length, arith, Bool, true, false, cond, List, [], ◌∷◌, ◌++◌, map, Option, Some, None, refl, ap, sym, ◌∙◌, subst}
+use Rattle.std.proofs.Common.{ℕ, ◌≡◌, ◌≤◌, ◌<◌, ◌^◌, length, arith, Bool, true, false, cond, List, [], ◌∷◌, ◌++◌, map, Option, Some, None, refl, ap, sym, ◌∙◌, subst}
 use Rattle.std.specs.Prelude.{IfSome, option_map, bytes_eq}
 use Rattle.std.specs.List.{AllByRecursion, IsDistinct}
 use Rattle.std.specs.Cmp.Lexicographic.{nat_list_eq_equiv}
@@ -7,7 +7,7 @@ use Rattle.st_units.specs.declared.cause.Cause.TheVariants.{OutOfMemory}
 use Rattle.st_grants.proofs.Sound.{some_and}
 use Rattle.st_wants.specs.declared.row.LockRow.{LockRow}
 use Rattle.st_wants.specs.declared.want.Want.{Want}
-use Rattle.st_wants.specs.Wants.{writes, takes_table}
+use Rattle.st_wants.specs.Wants.{takes_table}
 use Rattle.st_model.specs.declared.call.Call.{Call}
 use Rattle.st_model.specs.declared.call.Call.TheVariants.{CreatePool, DestroyPool, StopPool, StartPool, RenamePool, AddDataDevs, InitCache, AddCacheDevs, CreateFilesystems, DestroyFilesystems, SnapshotFilesystem, RenameFilesystem, SetSizeLimit, SetFsLimit, SetOverprovisioning, FsWrite, FsRead, Check, PoolReport, PoolReports, EngineStateReport, SetMerge, PowerCycle}
 use Rattle.st_model.specs.declared.entry.Entry.{Entry}
@@ -32,7 +32,7 @@ use Rattle.st_lock.specs.Seats.{LockSeat, IsLater, own_row, state_at}
 use Rattle.st_lock.proofs.Granting.{noted_last}
 use Rattle.test_lock.specs.Refusing.{Awaits, Holds, refused_entry}
 
-refused-outcome : (s : EngineState) (call : Call) → outcome s call NoMem ≡ Some (refused OutOfMemory, s)
+pub refused-outcome : (s : EngineState) (call : Call) → outcome s call NoMem ≡ Some (refused OutOfMemory, s)
 refused-outcome s (CreatePool name devices) = refl
 refused-outcome s (DestroyPool name) = refl
 refused-outcome s (StopPool name) = refl
@@ -57,7 +57,7 @@ refused-outcome s EngineStateReport = refl
 refused-outcome s (SetMerge pool name value) = refl
 refused-outcome s PowerCycle = refl
 
-refused-step : (s : EngineState) (call : Call) → step s call NoMem ≡ (refused OutOfMemory, s)
+pub refused-step : (s : EngineState) (call : Call) → step s call NoMem ≡ (refused OutOfMemory, s)
 refused-step s call = rw (refused-outcome s call) refl
 
 pub comes-back : (w : Want) (s : EngineState) (base n : ℕ) (call : Call) (cells : List PoolState) (table : Option TableView) → want_of call ≡ w → PartStands w s cells table → IfSome table (λ (v : TableView). base ≤ v.slack) → ComesBack w s base (refused_entry call n ∷ []) cells table
@@ -74,7 +74,7 @@ others : (x : PoolState) (ys zs : List PoolState) → AllByRecursion (λ n. byte
 others x ys [] ne h = tt
 others x ys (z ∷ zs) ne h = (ap (λ b. cond b (Some x) (pool_at z.name ys)) ne.0 ∙ h.0, others x ys zs ne.1 h.1)
 
-each_own : (ps : List PoolState) → AreNamedApart ps → AllByRecursion (λ (p : PoolState). pool_at p.name ps ≡ Some p) ps
+pub each_own : (ps : List PoolState) → AreNamedApart ps → AllByRecursion (λ (p : PoolState). pool_at p.name ps ≡ Some p) ps
 unfolding IsDistinct
 each_own [] h = tt
 each_own (p ∷ ps) h = (ap (λ b. cond b (Some p) (pool_at p.name ps)) (nat_list_eq_equiv.refl p.name), others p ps ps h.0 (each_own ps h.1))
@@ -135,6 +135,7 @@ holds-of old new t u faults cut call cells table waits later own row part slack 
     record {
       row = rw live (refl, told.2.1);
       heard = later.heard;
+      valid = later.valid;
       part = subst (λ w. PartStands w (state_at new) cells table) told.2.1 stands;
       slack = slack;
       number = cut;

@@ -1,2 +1,3 @@
 pub mod WritesOnly
 pub mod Refusing
+pub mod Creating

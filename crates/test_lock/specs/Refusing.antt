@@ -8,6 +8,7 @@ use Rattle.st_model.specs.declared.entry.Env.TheVariants.{NoMem}
 use Rattle.st_model.specs.declared.entry.Origin.TheVariants.{Line}
 use Rattle.st_model.specs.declared.state.PoolState.{PoolState}
 use Rattle.st_model.specs.Answer.{refused}
+use Rattle.st_model.specs.Valid.{IsValid}
 use Rattle.st_model.specs.Wanted.{want_of}
 use Rattle.st_history.specs.declared.log.Event.TheVariants.{Arrive, Release}
 use Rattle.st_book.specs.declared.noted.Noted.{Noted}
@@ -27,6 +28,7 @@ Awaits v t call = IsSomeAnd (own_row t v) (λ r. (r.live ≡ false) × (r.want �
 pub record Holds (v : LockSeat) (t : ℕ) (call : Call) (cells : List PoolState) (table : Option TableView) (faults : ℕ) : Type 0 where
   pub row : IsSomeAnd (own_row t v) (λ r. (r.live ≡ true) × (r.want ≡ want_of call))
   pub heard : IsHeard v
+  pub valid : IsValid (state_at v)
   pub part : PartStands (want_of call) (state_at v) cells table
   pub slack : IfSome table (λ w. v.opening.base ≤ w.slack)
   pub number : ℕ

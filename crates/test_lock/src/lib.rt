@@ -1,14 +1,18 @@
-//! The lock: which tickets are granted, the book, the turn of two threads, and a caller of the whole.
+//! The lock: which tickets are granted, the book, the turn of two threads, and callers of the whole.
 #![tactic(auto)]
 
 #[cfg(test)]
 mod book;
+pub mod creating;
 #[cfg(test)]
 mod grants;
 #[cfg(test)]
 mod lock;
+#[cfg(test)]
+mod made;
 pub mod plain_lock;
 pub mod refusing;
+pub mod staying;
 #[cfg(test)]
 mod turn;
 #[cfg(test)]

@@ -2,17 +2,17 @@
 ghost use Rattle.std.specs.Prelude.{◌≡◌, map, option_map, IfSome};
 ghost use Rattle.std.specs.List.{AllByRecursion};
 ghost use Rattle.st_model.specs.Sound.{IsSound};
-ghost use Rattle.st_model.specs.Valid.{IsValid};
 ghost use Rattle.st_lock.specs.Held.{faults_in};
-ghost use Rattle.st_lock.specs.Seats.{state_at};
+ghost use Rattle.test_lock.specs.Creating.{IsCreation};
 ghost use Rattle.test_lock.specs.Refusing.{Awaits, Holds};
 
 use crate::plain_lock::{PlainLock, PlainSeat, open};
 use crate::refusing::{Running, Waiting, arrive, job_of, try_once};
-use st_book::Log;
+use st_book::{Log, Peek};
 use st_lock::{AllOrSome, Seat, Shut};
 use st_model::{Board, Call, Cell};
-use st_units::{Name, NameList};
+use st_plain::{PlainCell, PlainTable};
+use st_units::{DevList, DevPath, Name, NameList, NoMemory};
 use st_wants::Names;
 use std::alloc::Global;
 use std::process::Abort;
@@ -56,6 +56,23 @@ pub fn check_of(rt: &impl Abort, alloc: Global, pool: &str) -> Call
 {
     Call::Check {
         pool: name_of(rt, alloc, pool),
+    }
+}
+
+/// The call that makes the pool on the one device.
+pub fn creation_of(rt: &impl Abort, alloc: Global, pool: &str) -> Call
+    ensures { IsCreation result }
+{
+    let mut devices = DevList::make(alloc);
+    let Ok(path) = DevPath::read(alloc, b"/dev/sim0") else {
+        panic!(rt; "no memory for a path");
+    };
+    match devices.push(path) {
+        Ok(()) => Call::CreatePool {
+            name: name_of(rt, alloc, pool),
+            devices,
+        },
+        Err(_) => panic!(rt; "no memory for a list"),
     }
 }
 
@@ -112,7 +129,6 @@ pub fn granted<C: Cell, T: Board>(
         (option_map (λ t. record { state = T.stands t; slack = T.slack t }) result.guard.part.table) (faults_in T.fault_count C.fault_count result.guard.part.table result.guard.part.cells.items) }
     ensures kept { AllByRecursion C.is_kept result.guard.part.cells.items × IfSome result.guard.part.table T.is_kept }
     ensures call { result.job.call ≡ waiting.job.call }
-    ensures valid { IsValid (state_at seat.new) }
 {
     match try_once(lock, rt, seat, waiting) {
         Ok(running) => {
@@ -142,6 +158,23 @@ pub fn kept_back<C: Cell, T: Board>(
             assert_eq!(rt; found, blocker, "ticket {}", waiting.ticket.number);
             waiting
         }
+    }
+}
+
+/// What a look showed: how many devices are free, the next serial, and how many pools are started.
+pub fn seen_by(
+    rt: &impl Abort,
+    shown: Result<Peek<PlainCell, PlainTable>, NoMemory>,
+) -> (usize, u64, usize) {
+    match shown {
+        Ok(Peek { table_info, infos }) => {
+            (
+                table_info.value().free.len(),
+                table_info.value().next,
+                infos.len(),
+            )
+        }
+        Err(_) => panic!(rt; "no memory for a look"),
     }
 }
 
