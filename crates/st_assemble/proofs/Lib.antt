@@ -1,0 +1,5 @@
+pub mod Rows
+pub mod UpTo
+pub mod Foreign
+pub mod Unnamed
+pub mod Logs

@@ -1,0 +1,4 @@
+pub mod SoFar
+pub mod Told
+pub mod Places
+pub mod Taken
