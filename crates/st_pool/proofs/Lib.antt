@@ -6,6 +6,9 @@ pub mod Running
 pub mod Committing
 pub mod Renamed
 pub mod NextCommit
+pub mod Freed
 pub mod Halting
+pub mod Gone
 pub mod RenameEnds
+pub mod EndEnds
 pub mod Commits

@@ -2,12 +2,15 @@
 #![tactic(auto)]
 
 mod answers;
+mod ended;
+mod ending;
 mod halted;
 mod planning;
 mod pool;
 mod renaming;
 mod reply;
 
+pub use ended::Ended;
 pub use halted::Halted;
 pub use pool::Pool;
 pub use reply::PoolReply;
