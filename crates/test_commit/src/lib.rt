@@ -4,4 +4,6 @@
 #[cfg(test)]
 mod commits;
 #[cfg(test)]
+mod parts;
+#[cfg(test)]
 mod site;

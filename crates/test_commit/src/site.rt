@@ -57,7 +57,7 @@ pub fn two_devices(alloc: Global) -> Result<(MemRack, DevList), Fail> {
 }
 
 /// Whether these are two devices, and the areas lie on them.
-fn is_pool<R: Rack>(rack: &R, devs: &DevList, pool: &Area, flex: &FlexArea) -> bool
+pub fn is_pool<R: Rack>(rack: &R, devs: &DevList, pool: &Area, flex: &FlexArea) -> bool
     ensures two { IsTrue result → length devs.now ≡ 2 }
     ensures distinct { IsTrue result → AreDistinct devs.now }
     ensures lie { IsTrue result → (d : Path) → IsOf devs.now d → Lies (R.devs rack.now) d pool.now }
@@ -126,7 +126,7 @@ pub fn body_of(alloc: Global, next_cell: u64) -> Result<Bytes, Fail> {
 }
 
 /// The record of pool 1 at a generation below 256, as far as commits look at it: its serial, and one byte of its own.
-fn record_of(generation: u64) -> [u8; 9] {
+pub fn record_of(generation: u64) -> [u8; 9] {
     [0, 0, 0, 0, 0, 0, 0, 1, (generation % 256) as u8]
 }
 
@@ -155,7 +155,7 @@ pub fn commit_one(alloc: Global, rack: &mut MemRack, devs: &DevList) -> Result<T
 }
 
 /// A delta that maps this block of filesystem 1 to the cell of this number, in a place of its own.
-fn delta_of(block: u32, cell: u64) -> Delta
+pub fn delta_of(block: u32, cell: u64) -> Delta
     ensures { IsInOrder result }
 {
     Delta {
