@@ -3,7 +3,8 @@ ghost use Rattle.st_units.specs.Causes.{HasCause};
 ghost use Rattle.st_rack.specs.Device.{Path, held};
 ghost use Rattle.st_rack.specs.Moments.{Keeps};
 ghost use Rattle.st_poolrec.specs.Record.{record_text};
-ghost use Rattle.st_commit.specs.Ready.{BearsRecord};
+ghost use Rattle.st_deltalog.specs.Bearing.{IsSettled};
+ghost use Rattle.st_commit.specs.Ready.{BearsRecord, IsOf};
 ghost use Rattle.st_image.specs.Bears.{paths};
 ghost use Rattle.st_image.specs.Stands.{state_of};
 ghost use Rattle.st_image.specs.Looks.{pool_area};
@@ -48,6 +49,9 @@ pub fn commit_next<R: Rack>(
     ensures generation { OnOk result (books.new.generation ≡ books.old.generation + 1) }
 
     ensures committed { OnOk result (books.new.has_committed ≡ true) }
+
+    // Then nothing is pending on any device.
+    ensures settled { OnOk result ((d : Path) → IsOf devs.now d → IsSettled (R.state_at rack.new (R.moment rack.new) d)) }
 
     // After a fault the books are what they were, but for the place of the next delta.
     ensures rec_before { OnErr result (books.new.rec ≡ books.old.rec) }

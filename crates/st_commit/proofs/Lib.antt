@@ -15,3 +15,4 @@ pub mod Moving
 pub mod Elsewhere
 pub mod Parts
 pub mod Staying
+pub mod Settled

@@ -58,6 +58,9 @@ module _ (pool : Area) (p : ℕ) (h : ℕ → List ℕ) (devs : List Path) (bear
         newest_certain new.of new.is new.serial s (subst (λ (x : DevState). BearsRecord pool g rec x) (sym still) new.bears)
         (slots_step pool devs dev (slot_at pool g) bytes (Ranked p h g) off a s step new.held new.slots)
 
+    pub slots_at : (s : State) → OnDevice dev (Rewriting (slot_at pool g) bytes) a s → AllSlots pool devs (Ranked p h g) s
+    slots_at s step = slots_step pool devs dev (slot_at pool g) bytes (Ranked p h g) off a s step new.held new.slots
+
     pub bears_there : (s : State) → OnDevice dev (Rewritten (slot_at pool g) bytes) a s → BearsRecord pool g rec (s dev)
     bears_there s step = record_new pool g (slot_at pool g) bytes rec (a dev) (s dev) (λ f e. slot_reads pool g rec f eight some until small fits e) step.here
 

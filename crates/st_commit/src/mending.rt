@@ -8,8 +8,8 @@ ghost use Rattle.st_slots.specs.Places.{Lies, slot_at};
 ghost use Rattle.st_slots.specs.Reading.{read_any};
 ghost use Rattle.st_deltalog.specs.declared.area.FlexArea.{FlexArea};
 ghost use Rattle.st_deltalog.specs.Log.{Log};
-ghost use Rattle.st_deltalog.specs.Bearing.{Rests};
-ghost use Rattle.st_commit.specs.Ready.{IsOf, BearsRecord, IsSound, AreApart, Spares};
+ghost use Rattle.st_deltalog.specs.Bearing.{IsSettled, Rests};
+ghost use Rattle.st_commit.specs.Ready.{IsOf, BearsRecord, IsSound, AreApart, Spares, AllSlots, Ranked};
 ghost use Rattle.st_commit.specs.Repair.{Newest, NewestOnly, Mended, AllSure};
 
 use st_rack::Rack;
@@ -44,6 +44,10 @@ pub fn repair<R: Rack>(
     ensures during { (p : ℕ) (h : ℕ → List ℕ) (bearer : Path) → Newest pool.now p h devs.now bearer generation rec.now (R.state_at rack.old (R.moment rack.old))
         → Keeps R.moment R.state_at (NewestOnly pool.now p devs.now generation rec.now) rack.old rack.new }
 
+    // And all that was meant for the slots is of that history.
+    ensures slots { (p : ℕ) (h : ℕ → List ℕ) (bearer : Path) → Newest pool.now p h devs.now bearer generation rec.now (R.state_at rack.old (R.moment rack.old))
+        → Keeps R.moment R.state_at (AllSlots pool.now devs.now (Ranked p h generation)) rack.old rack.new }
+
     // A log on one of the devices stays.
     ensures logs { (flex : FlexArea) (p up g : ℕ) (log : Log) (first : Path) → IsSound flex → AreApart pool.now flex.area → Rests flex p up g log (R.state_at rack.old (R.moment rack.old) first)
         → Keeps R.moment R.state_at (λ s. Rests flex p up g log (s first)) rack.old rack.new }
@@ -51,6 +55,9 @@ pub fn repair<R: Rack>(
     // After an `Ok` it is whole on each device, where each was sure of its slot.
     ensures done { OnOk result ((p : ℕ) (h : ℕ → List ℕ) (bearer : Path) → Newest pool.now p h devs.now bearer generation rec.now (R.state_at rack.old (R.moment rack.old)) → AllSure pool.now devs.now generation (R.state_at rack.old (R.moment rack.old))
         → Newest pool.now p h devs.now bearer generation rec.now (R.state_at rack.new (R.moment rack.new)) × ((d : Path) → IsOf devs.now d → BearsRecord pool.now generation rec.now (R.state_at rack.new (R.moment rack.new) d))) }
+
+    // Then each device on which nothing was pending is so still.
+    ensures settled { OnOk result ((d : Path) → IsSettled (R.state_at rack.old (R.moment rack.old) d) → IsSettled (R.state_at rack.new (R.moment rack.new) d)) }
 {
     for i in 0..devs.len() {
         mend(alloc, rack, devs.at(i), pool, generation, rec, work)?;

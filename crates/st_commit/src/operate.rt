@@ -6,7 +6,7 @@ ghost use Rattle.st_fields.specs.Slot.{padded};
 ghost use Rattle.st_slots.specs.Places.{Lies};
 ghost use Rattle.st_deltalog.specs.Log.{Log, serial_in, begun, grown, log_at};
 ghost use Rattle.st_deltalog.specs.Choice.{GoesByRule, chosen, chosen_up};
-ghost use Rattle.st_deltalog.specs.Bearing.{IsTail, other};
+ghost use Rattle.st_deltalog.specs.Bearing.{IsSettled, IsTail, other};
 ghost use Rattle.st_commit.specs.Standing.{OneOf, standing_of};
 ghost use Rattle.st_commit.specs.Ready.{IsOf, Ready, BearsRecord, AreApart, AreDistinct, Moves, NoOther, next};
 
@@ -63,6 +63,7 @@ pub fn commit_delta<R: Rack>(
         → Ready pool.now flex.now p up (next generation rec.now h) devs.now first generation (Some (grown log delta.now)) (R.state_at rack.new (R.moment rack.new))
         × ((d : Path) → IsOf devs.now d → BearsRecord pool.now generation rec.now (R.state_at rack.new (R.moment rack.new) d))) }
     ensures tail { OnOk result ((log : Log) → IsTail tail.old.slot tail.old.next log → IsTail tail.new.slot tail.new.next (grown log delta.now)) }
+    ensures settled { OnOk result ((d : Path) → IsOf devs.now d → IsSettled (R.state_at rack.new (R.moment rack.new) d)) }
 {
     append(rack, devs.at(0), flex, tail, generation, delta, flex_work)?;
     commit(rack, devs, pool, generation, rec, work)
@@ -114,6 +115,7 @@ pub fn commit_checkpoint<R: Rack>(
         → Ready pool.now flex.now p (2 ^ 48) (next generation rec.now h) devs.now first generation (Some (begun slot (generation, body.now))) (R.state_at rack.new (R.moment rack.new))
         × ((d : Path) → IsOf devs.now d → BearsRecord pool.now generation rec.now (R.state_at rack.new (R.moment rack.new) d))) }
     ensures tail { IfOk result (λ tail. IsTail tail.slot tail.next (begun slot (generation, body.now))) }
+    ensures settled { OnOk result ((d : Path) → IsOf devs.now d → IsSettled (R.state_at rack.new (R.moment rack.new) d)) }
 {
     let tail = checkpoint(rack, devs.at(0), flex, slot, generation, body, flex_work)?;
     commit(rack, devs, pool, generation, rec, work)?;
@@ -162,6 +164,7 @@ pub fn commit_first<R: Rack>(
         → Ready pool.now flex.now p 1 (next 1 rec.now h) devs.now first 1 (Some (begun 1 (1, body.now))) (R.state_at rack.new (R.moment rack.new))
         × ((d : Path) → IsOf devs.now d → BearsRecord pool.now 1 rec.now (R.state_at rack.new (R.moment rack.new) d))) }
     ensures tail { IfOk result (λ tail. IsTail tail.slot tail.next (begun 1 (1, body.now))) }
+    ensures settled { OnOk result ((d : Path) → IsOf devs.now d → IsSettled (R.state_at rack.new (R.moment rack.new) d)) }
 {
     let tail = checkpoint(rack, devs.at(0), flex, 1, 1, body, flex_work)?;
     commit(rack, devs, pool, 1, rec, work)?;
@@ -221,6 +224,7 @@ pub fn commit_by_rule<R: Rack>(
         × (((d : Path) → IsOf devs.now d → BearsRecord pool.now generation rec.now (R.state_at rack.new (R.moment rack.new) d))
         × GoesByRule flex.now same_rows has_committed log (log_at flex.now p generation (R.state_at rack.new (R.moment rack.new) first).holds))) }
     ensures tail { OnOk result ((log : Log) → IsTail tail.old.slot tail.old.next log → IsTail tail.new.slot tail.new.next (chosen flex.now same_rows has_committed log generation delta.now body.now)) }
+    ensures settled { OnOk result ((d : Path) → IsOf devs.now d → IsSettled (R.state_at rack.new (R.moment rack.new) d)) }
 {
     if may_follow(flex, tail, same_rows, has_committed) {
         return commit_delta(

@@ -6,9 +6,10 @@ ghost use Rattle.st_fields.specs.Slot.{padded, slot_bytes};
 ghost use Rattle.st_slots.specs.Places.{Lies};
 ghost use Rattle.st_deltalog.specs.declared.area.FlexArea.{FlexArea};
 ghost use Rattle.st_deltalog.specs.Log.{Log};
+ghost use Rattle.st_deltalog.specs.Bearing.{IsSettled};
 ghost use Rattle.st_commit.specs.Standing.{OneOf, standing_of};
 ghost use Rattle.st_commit.specs.Ready.{IsOf, Ready, BearsRecord, IsSound, AreApart, AreDistinct, next, Before, NoOther, Spares};
-ghost use Rattle.st_commit.specs.inner.Spreading.{Spread, SpreadDone, SpreadKnown};
+ghost use Rattle.st_commit.specs.inner.Spreading.{SettledDone, Spread, SpreadDone, SpreadKnown};
 
 use st_rack::{DevFault, Rack};
 use st_slots::{Area, write_next, write_synced};
@@ -54,6 +55,9 @@ pub fn commit<R: Rack>(
         → Before pool.now flex p up h devs.now first g old generation rec.now log (R.state_at rack.old (R.moment rack.old))
         → Ready pool.now flex p up (next generation rec.now h) devs.now first generation (Some log) (R.state_at rack.new (R.moment rack.new))
         × ((d : Path) → IsOf devs.now d → BearsRecord pool.now generation rec.now (R.state_at rack.new (R.moment rack.new) d))) }
+
+    // Then nothing is pending on any of them.
+    ensures settled { OnOk result ((d : Path) → IsOf devs.now d → IsSettled (R.state_at rack.new (R.moment rack.new) d)) }
 {
     write_next(rack, devs.at(0), pool, generation, rec, work)?;
     spread(rack, devs, pool, generation, rec, work)
@@ -84,6 +88,7 @@ fn spread<R: Rack>(
     ensures others { SpreadKnown R.moment R.state_at pool.now devs.now generation rec.now rack.old rack.new }
     ensures during { Spread R.moment R.state_at pool.now devs.now generation rec.now rack.old rack.new }
     ensures done { OnOk result (SpreadDone R.moment R.state_at pool.now devs.now generation rec.now (length devs.now) rack.old rack.new) }
+    ensures settled { OnOk result (SettledDone R.moment R.state_at devs.now (length devs.now) rack.old rack.new) }
 {
     let _ = rec;
     let sector = pool.at + generation % 2 * pool.slot;

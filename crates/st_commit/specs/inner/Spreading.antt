@@ -7,6 +7,7 @@ use Rattle.st_slots.specs.Reading.{read_slot}
 use Rattle.st_slots.specs.declared.spot.Area.{Area}
 use Rattle.st_deltalog.specs.declared.area.FlexArea.{FlexArea}
 use Rattle.st_deltalog.specs.Log.{Log}
+use Rattle.st_deltalog.specs.Bearing.{IsSettled}
 use Rattle.st_commit.specs.Standing.{Only, standing_of}
 use Rattle.st_commit.specs.Ready.{IsOf, BearsRecord, IsSound, Known, NoOther, Ready}
 
@@ -39,3 +40,9 @@ SpreadKnown moment state_at pool devs generation rec old new =
 abbrev pub KnownDone : {D : Type 0} → (D → ℕ) → (D → ℕ → State) → Area → List Path → ℕ → List ℕ → D → D → Type 0
 KnownDone moment state_at pool devs generation rec old new =
     (start : State) → AllKnown pool devs generation rec start (state_at old (moment old)) → AllKnown pool devs generation rec start (state_at new (moment new))
+
+-- where the first device is settled before, the first k are
+abbrev pub SettledDone : {D : Type 0} → (D → ℕ) → (D → ℕ → State) → List Path → ℕ → D → D → Type 0
+SettledDone moment state_at devs k old new =
+    ((first : Path) → slice_get devs 0 ≡ Some first → IsSettled (state_at old (moment old) first))
+    → (j : ℕ) (d : Path) → j < k → slice_get devs j ≡ Some d → IsSettled (state_at new (moment new) d)

@@ -166,6 +166,10 @@ pub returns-in_err-commit_by_rule-clause-committed : goal.returns-in_err-commit_
 returns-in_err-commit_by_rule-clause-committed g c =
     let p = err_from_is_err_and c.from_residual.result c.from_residual.ensures.1 in rw p.1 tt
 
+pub returns-in_err-commit_by_rule-clause-settled : goal.returns-in_err-commit_by_rule-clause-settled
+returns-in_err-commit_by_rule-clause-settled g c =
+    let p = err_from_is_err_and c.from_residual.result c.from_residual.ensures.1 in rw p.1 tt
+
 pub returns-in_err-commit_by_rule-clause-rec_before : goal.returns-in_err-commit_by_rule-clause-rec_before
 returns-in_err-commit_by_rule-clause-rec_before g c =
     let p = err_from_is_err_and c.from_residual.result c.from_residual.ensures.1 in rw p.1 refl
@@ -279,3 +283,6 @@ returns-clause-generation g c =
 pub returns-clause-committed : goal.returns-clause-committed
 returns-clause-committed g c =
     refl
+
+pub returns-clause-settled : goal.returns-clause-settled
+returns-clause-settled g c = c.in_ok-commit_by_rule.ensures.settled

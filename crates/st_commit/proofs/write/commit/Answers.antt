@@ -1,4 +1,4 @@
-use Rattle.std.proofs.Common.{inr, ◌≤◌, ◌^◌, Some, arith}
+use Rattle.std.proofs.Common.{◌≡◌, inr, ◌≤◌, ◌^◌, Some, sym, ◌∙◌, subst, arith}
 use Rattle.std.proofs.lemmas.Option.{slice_get_within}
 use Rattle.st_rack.specs.Device.{Path, State}
 use Rattle.st_rack.specs.Calls.{Devices}
@@ -6,15 +6,23 @@ use Rattle.st_rack.proofs.Moments.{keeps_on, keeps_weak}
 use Rattle.st_slots.specs.Places.{Lies}
 use Rattle.st_slots.specs.declared.spot.Area.{Area}
 use Rattle.st_slots.proofs.Running.{on_ok}
+use Rattle.st_deltalog.specs.Bearing.{IsSettled}
 use Rattle.st_commit.specs.Standing.{OneOf, Only, standing_of}
 use Rattle.st_commit.specs.Ready.{next, NoOther}
 use Rattle.st_commit.proofs.Frame.{spares_on}
 use Rattle.st_commit.proofs.Known.{known_start}
+use Rattle.st_commit.proofs.Settled.{rewritten_settled}
 use Rattle.st_commit.proofs.Writes.{next_top, write_spares, write_known, write_known_done, write_first, write_first_done}
 use Rattle.st_commit.proofs.write.commit.Goals as goal
 
 small_of : {devs : Devices} {d : Path} {pool : Area} → Lies devs d pool → pool.slot ≤ 2 ^ 32
 small_of lies = omega (arith, lies.small)
+
+some_inj : (a b : Path) → Some a ≡ Some b → a ≡ b
+some_inj a b e = cc
+
+first_settled : (s : State) (a b : Path) → a ≡ b → IsSettled (s a) → IsSettled (s b)
+first_settled s a b e settled = subst (λ (q : Path). IsSettled (s q)) e settled
 
 pub returns-in_err-write_next-clause-spares : goal.returns-in_err-write_next-clause-spares
 returns-in_err-write_next-clause-spares g c = write_spares g.R.Rack.moment g.R.Rack.state_at c.args.pool.now c.args.devs.now c.args.generation c.args.rec.now c.at.result.now c.args.rack.now c.write_next.new.rack c.write_next.ensures.eight c.requires.from c.requires.until (small_of (c.requires.lie c.at.result.now (record { index = 0; is = c.at.ensures }))) c.requires.fits (record { index = 0; is = c.at.ensures }) c.write_next.ensures.time
@@ -66,3 +74,10 @@ returns-clause-done g c =
     let all = done flex p up (next c.args.generation c.args.rec.now h) first log sound before.head (next_top c.args.generation c.args.rec.now h)
     (write_first_done g.R.Rack.moment g.R.Rack.state_at c.args.pool.now c.args.devs.now c.args.generation c.args.rec.now c.at.result.now c.args.rack.now c.write_next.new.rack c.write_next.ensures.eight c.requires.from c.requires.until (small_of (c.requires.lie c.at.result.now (record { index = 0; is = c.at.ensures }))) c.requires.fits c.at.ensures flex p up was_g h first was log sound apart before c.in_ok-write_next.ensures.done) in
     (all.0, λ d of. all.1 of.index d (slice_get_within c.args.devs.now of.index d of.is) of.is)) c.spread.ensures.done
+
+pub returns-clause-settled : goal.returns-clause-settled
+returns-clause-settled g c =
+    let S = g.R.Rack.state_at c.write_next.new.rack (g.R.Rack.moment c.write_next.new.rack) in
+    on_ok c.spread.result _ _ (λ done d of.
+    done (λ first head. first_settled S c.at.result.now first (some_inj c.at.result.now first (sym c.at.ensures ∙ head)) (rewritten_settled _ _ _ _ c.in_ok-write_next.ensures.done.here))
+    of.index d (slice_get_within c.args.devs.now of.index d of.is) of.is) c.spread.ensures.settled

@@ -15,6 +15,7 @@ use Rattle.st_slots.proofs.Texts.{length-slot_bytes}
 use Rattle.st_commit.specs.Standing.{Only, standing_of}
 use Rattle.st_commit.specs.Ready.{BearsRecord, NoOther}
 use Rattle.st_commit.proofs.Steps.{certain}
+use Rattle.st_commit.proofs.Settled.{settled_start, settled_on}
 use Rattle.st_commit.proofs.Frame.{spares_on, spares_still}
 use Rattle.st_commit.proofs.Known.{known_left}
 use Rattle.st_commit.proofs.Whole.{based_sure}
@@ -82,6 +83,7 @@ loop-i-init g c =
             let e : first ≡ d = some_inj first d (sym head ∙ ap (slice_get devs) (sym zero_is) ∙ there) in
             subst (λ (q : Path). BearsRecord pool G rec (before q)) e (subst (λ (b : List ℕ). BearsRecord pool G b (before first)) is ready.base.0),
       );
+      settled = settled_start M S devs rack;
     }
 
 pub returns-in_err-write_synced-clause-spares : goal.returns-in_err-write_synced-clause-spares
@@ -147,6 +149,7 @@ loop-i-preserved g c =
                   subst (λ (q : Path). BearsRecord pool G rec (S r2 (M r2) q)) e (write_other_bears g.R.Rack.moment g.R.Rack.state_at c.args.pool.now c.args.devs.now c.args.generation c.args.rec.now c.at.result.now c.loop-i.rack c.write_synced.new.rack c.requires.eight c.requires.from c.requires.until (small_of (c.requires.lie c.at.result.now (record { index = c.loop-i.i; is = c.at.ensures }))) c.requires.fits flex p up h first log sound head is ne before.0 done)
             ],
           );
+      settled = settled_on M S devs i dev (slot_at pool G) (slot_bytes pool.magic G rec) r0 r1 r2 c.requires.distinct c.at.ensures done c.loop-i.invariant.settled;
     }
 
 pub returns-clause-done : goal.returns-clause-done
@@ -154,3 +157,6 @@ returns-clause-done g c =
     λ flex p up h first log sound head is ready.
     let all = c.loop-i.invariant.done flex p up h first log sound head is ready in
     (all.0, λ j d lt there. all.1 j d (omega arith) there)
+
+pub returns-clause-settled : goal.returns-clause-settled
+returns-clause-settled g c = λ first j d lt there. c.loop-i.invariant.settled first j d (omega (arith, lt)) there

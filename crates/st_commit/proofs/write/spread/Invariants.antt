@@ -1,7 +1,7 @@
 use Rattle.std.proofs.Common.{◌≡◌, ◌≤◌}
 use Rattle.st_rack.specs.Moments.{Goes}
 use Rattle.st_commit.specs.Ready.{Spares}
-use Rattle.st_commit.specs.inner.Spreading.{Spread, SpreadDone, SpreadKnown, KnownDone}
+use Rattle.st_commit.specs.inner.Spreading.{SettledDone, Spread, SpreadDone, SpreadKnown, KnownDone}
 use Rattle.st_commit.proofs.write.spread.Given as goal
 
 abbrev pub invariant-loop-i : goal.invariant-loop-i
@@ -15,4 +15,5 @@ invariant-loop-i g l = record {
   known : KnownDone g.R.Rack.moment g.R.Rack.state_at l.pool l.devs l.generation l.rec l.fn.rack l.rack;
   during : Spread g.R.Rack.moment g.R.Rack.state_at l.pool l.devs l.generation l.rec l.fn.rack l.rack;
   done : SpreadDone g.R.Rack.moment g.R.Rack.state_at l.pool l.devs l.generation l.rec l.i l.fn.rack l.rack;
+  settled : SettledDone g.R.Rack.moment g.R.Rack.state_at l.devs l.i l.fn.rack l.rack;
 }
