@@ -1,0 +1,15 @@
+//! Laws of what a call that takes one whole pool does beside other pools. They do nothing when they run.
+#![tactic(auto)]
+
+ghost use Rattle.st_beside.specs.Beside.{DestroyBeside, RenameBeside, StopBeside};
+
+use st_table::keeps_as_the_model;
+
+/// What a call does to one pool alone, it does to it beside others, which stay as they are.
+pub fn beside_others()
+    ensures destroyed { DestroyBeside }
+    ensures stopped { StopBeside }
+    ensures renamed { RenameBeside }
+{
+    keeps_as_the_model();
+}
