@@ -84,12 +84,12 @@ at_row P (x ∷ xs) all zero r is = subst P (some_inj x r is) all.0
 at_row P (x ∷ xs) all (suc k) r is = at_row P xs all.1 k r is
 
 -- data devices are no cache
-no_cache : (rows : List DevRow) → AllByRecursion (λ (row : DevRow). row.tier ≡ DataTier) rows → cache_rows rows ≡ []
+pub no_cache : (rows : List DevRow) → AllByRecursion (λ (row : DevRow). row.tier ≡ DataTier) rows → cache_rows rows ≡ []
 no_cache [] all = refl
 no_cache (r ∷ rows) all =
     ap (λ (t : Tier). cond (not (is_data t)) (r ∷ filter (λ (row : DevRow). not (is_data row.tier)) rows) (filter (λ (row : DevRow). not (is_data row.tier)) rows)) all.0 ∙ no_cache rows all.1
 
-first_blocks : length (blocks_of (first_segment ∷ [])) ≡ 32
+pub first_blocks : length (blocks_of (first_segment ∷ [])) ≡ 32
 first_blocks = ap length (append-nil (blocks_from 0 26 32)) ∙ length-blocks_from 0 26 32
 
 -- what the model makes of the call is what the first records say

@@ -59,7 +59,7 @@ pub fn first_books(
 }
 
 /// What the log of a new pool says.
-fn first_flex(alloc: Global, serial: &PoolSerial) -> FlexState
+pub fn first_flex(alloc: Global, serial: &PoolSerial) -> FlexState
     ensures { result ≡ first_flex serial.now }
 {
     FlexState {

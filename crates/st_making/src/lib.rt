@@ -6,5 +6,5 @@ mod headers;
 pub mod laws;
 mod making;
 
-pub use first::{First, first_books, spell_first};
+pub use first::{First, first_books, first_flex, spell_first};
 pub use making::make;

@@ -1,6 +1,9 @@
 ghost use Rattle.std.specs.Prelude.{◌≡◌, OnOk};
 ghost use Rattle.st_units.specs.Causes.{HasCause};
+ghost use Rattle.st_rack.specs.Device.{Path};
 ghost use Rattle.st_rack.specs.Moments.{Goes, Keeps};
+ghost use Rattle.st_deltalog.specs.Bearing.{IsSettled};
+ghost use Rattle.st_commit.specs.Ready.{IsOf};
 ghost use Rattle.st_image.specs.Bears.{paths};
 ghost use Rattle.st_books.specs.Survived.{Survived};
 ghost use Rattle.st_books.specs.Ready.{AreReady, AreThere, rows_of};
@@ -44,7 +47,8 @@ pub fn make<R: Rack>(
     // After an `Ok` the devices bear the books.
     ensures done { OnOk result (AreReady books.now (R.state_at rack.new (R.moment rack.new))) }
 
-    // Then each has both copies of its header.
+    // Then nothing is pending on them, and each has both copies of its header.
+    ensures settled { OnOk result ((d : Path) → IsOf devs.now d → IsSettled (R.state_at rack.new (R.moment rack.new) d)) }
     ensures headers { OnOk result (BearHeaders books.now.rec.serial (rows_of books.now.rec) (R.state_at rack.new (R.moment rack.new))) }
 {
     let First {

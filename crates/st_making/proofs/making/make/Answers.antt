@@ -92,6 +92,10 @@ pub returns-in_err-write_headers-clause-headers : goal.returns-in_err-write_head
 returns-in_err-write_headers-clause-headers g c =
     let p = err_from_is_err_and c.from_residual.result c.from_residual.ensures.1 in rw p.1 tt
 
+pub returns-in_err-write_headers-clause-settled : goal.returns-in_err-write_headers-clause-settled
+returns-in_err-write_headers-clause-settled g c =
+    let p = err_from_is_err_and c.from_residual.result c.from_residual.ensures.1 in rw p.1 tt
+
 pub commit_first-requires-clause-some : goal.commit_first-requires-clause-some
 commit_first-requires-clause-some g c = subst (λ (ds : List Path). 0 < length ds) c.requires.on (some_path c.args.books.now.rec c.requires.first.is (g.R.Rack.devs c.args.rack.now) c.requires.there)
 
@@ -195,6 +199,10 @@ returns-in_err-commit_first-clause-done g c =
 
 pub returns-in_err-commit_first-clause-headers : goal.returns-in_err-commit_first-clause-headers
 returns-in_err-commit_first-clause-headers g c =
+    let p = err_from_is_err_and c.from_residual-in_err-commit_first.result c.from_residual-in_err-commit_first.ensures.1 in rw p.1 tt
+
+pub returns-in_err-commit_first-clause-settled : goal.returns-in_err-commit_first-clause-settled
+returns-in_err-commit_first-clause-settled g c =
     let p = err_from_is_err_and c.from_residual-in_err-commit_first.result c.from_residual-in_err-commit_first.ensures.1 in rw p.1 tt
 
 pub returns-clause-devs : goal.returns-clause-devs
@@ -304,3 +312,6 @@ returns-clause-headers g c =
     c.pool_area.ensures c.flex_area.ensures (sym c.requires.on) c.items.ensures (c.items-2.ensures ∙ c.requires.first.text) in
     let moves = subst (λ (x : Args). Goes M S (Moves x.0 x.1 1 x.2) r1 r2) env c.commit_first.ensures.moves in
     bear_at_end M S b c.requires.new r0 r1 r2 c.requires.free headed moves
+
+pub returns-clause-settled : goal.returns-clause-settled
+returns-clause-settled g c = c.in_ok-commit_first.ensures.settled
