@@ -1,15 +1,14 @@
 -- what the tests of a change tell of the table
 use denote.Bor.{Bor}
 use Rattle.std.proofs.Common.{◌≡◌, List, [], ◌∷◌, Bool, true, false, cond, not, ◌||◌, ◌&&◌, bytes_eq, map, Option, Some, None, is_some, is_none, refl, sym, ap, ◌∙◌}
-use Rattle.std.specs.Prelude.{find, filter, option_copied, option_map, ◌==◌}
+use Rattle.std.specs.Prelude.{find, option_copied, option_map, ◌==◌}
 use Rattle.std.specs.List.{AllByRecursion, list_any, list_all}
 use Rattle.st_units.specs.declared.rows.DevRow.{DevRow}
 use Rattle.st_model.specs.Look.{Text, row_of}
-use Rattle.st_model.specs.OnTable.{is_held}
 use Rattle.st_model.specs.Parts.{is_used}
 use Rattle.st_order.proofs.Lists.{any-map, any_found}
 use Rattle.st_table.specs.declared.pool.Pool.{Pool}
-use Rattle.st_table.specs.Table.{TablePool, IsFree, is_named, has_serial, is_taken, knows, pool_named, without}
+use Rattle.st_table.specs.Table.{TablePool, IsFree, is_named, has_serial, knows, pool_named, without}
 use Rattle.st_table.specs.inner.Sound.{is_free, table_pool}
 
 pub copied_some : {A : Type 0} (found : Option (Bor A)) → is_some (option_copied found) ≡ is_some found

@@ -1,9 +1,10 @@
 -- the laws of the table's changes, and of what it tells of each pool
-use Rattle.std.proofs.Common.{◌≡◌, ℕ, ◌<◌, ◌+◌, arith, suc, List, [], ◌∷◌, ◌++◌, append-nil, length, Bool, true, false, cond, not, ◌||◌, ◌&&◌, eqb, bytes_eq, map, insert, take, Option, Some, None, is_some, refl, sym, ap, subst, ◌∙◌}
+use Rattle.std.proofs.Common.{◌≡◌, ℕ, ◌<◌, ◌+◌, arith, suc, List, [], ◌∷◌, ◌++◌, append-nil, length, Bool, true, false, cond, not, ◌||◌, ◌&&◌, bytes_eq, map, insert, take, Option, Some, None, is_some, refl, sym, ap, subst, ◌∙◌}
 use Rattle.std.specs.Prelude.{find, filter, filter_map, option_map, nat_lt, ◌==◌}
 use Rattle.std.specs.List.{AllByRecursion, list_any, prefix_len}
 use Rattle.std.proofs.lemmas.Bool.Decides.{Decides-ltb}
 use Rattle.st_units.specs.declared.rows.DevRow.{DevRow}
+use Rattle.st_units.specs.declared.rows.Tier.{Tier}
 use Rattle.st_model.specs.declared.call.Call.{Call}
 use Rattle.st_model.specs.declared.info.ShownMode.{ShownMode}
 use Rattle.st_model.specs.declared.info.ShownMode.TheVariants as shows
@@ -14,11 +15,10 @@ use Rattle.st_model.specs.declared.state.KnownPool.{KnownPool}
 use Rattle.st_model.specs.declared.state.PoolMode.{PoolMode}
 use Rattle.st_model.specs.declared.state.PoolMode.TheVariants.{Up, Down, Stopped, Unsettled, Incomplete}
 use Rattle.st_model.specs.declared.state.PoolState.{PoolState}
-use Rattle.st_model.specs.Checks.{halted}
+use Rattle.st_model.specs.Checks.{halted, rows_on}
 use Rattle.st_model.specs.Flight.{all_but}
 use Rattle.st_model.specs.Lifted as lifted
-use Rattle.st_model.specs.Look.{Text, has_path, row_of, is_called, is_started, is_up, uses, flight_of, takes_path}
-use Rattle.st_model.specs.OnTable.{user_of}
+use Rattle.st_model.specs.Look.{Text, has_path, row_of, is_called, is_started, is_up, uses, flight_of, takes_path, devices_taken}
 use Rattle.st_model.specs.Parts.{known, is_used, pool_at, paths_taken, table_of}
 use Rattle.st_model.specs.Shown as shown
 use Rattle.st_model.specs.Shown.{halted_pools, stopped_with, place_among_stopped, comes_before}
@@ -30,9 +30,9 @@ use Rattle.st_order.proofs.Order.{eq_same, eq_turned}
 use Rattle.st_order.proofs.Ordered.{EachApart, Alone, filter_ordered, ordered_last, ordered_instead, find_ordered}
 use Rattle.st_order.proofs.Lists.{find-map, any-map, any_less, any_found, entered-map, or_first, or_second}
 use Rattle.st_table.specs.declared.halted.HaltedInfo.{HaltedInfo}
-use Rattle.st_table.specs.Stands.{Stands, info_in}
+use Rattle.st_table.specs.Stands.{info_in}
 use Rattle.st_table.specs.Steps.{StandsFor, kept, with_other, PoolsTold, UsersTold, InfosTold, AddedAlike, DroppedAlike, PutAlike, KeptAlike, StepsPut}
-use Rattle.st_table.specs.Table.{TablePool, TableView, name_of, is_named, names_of, without, changed, with_pool, with_instead, stopped_row, shown_mode, halted_as}
+use Rattle.st_table.specs.Table.{TablePool, TableView, name_of, is_named, stopped_row, shown_mode, halted_as}
 use Rattle.st_table.proofs.Standing.{all_alike}
 use Rattle.st_table.proofs.Following.{is_new, all_kept, called_kept, new_behind, apart_kept, pools_of, others_of, others_kept, stands_so, each_named, SoNamed, same_filter, same_map}
 
@@ -204,7 +204,7 @@ infos_told view s valid h =
 
 -- ---- changes
 
-new_last : (rows : List DevRow) (ps : List PoolState) (q : PoolState) → EachPair (Apart rows) (ps ++ q ∷ []) → is_new q.name ps
+pub new_last : (rows : List DevRow) (ps : List PoolState) (q : PoolState) → EachPair (Apart rows) (ps ++ q ∷ []) → is_new q.name ps
 new_last rows [] q h = refl
 new_last rows (p ∷ ps) q h =
     let other : is_called q.name p ≡ false = eq_turned p.name q.name ∙ behind (new_behind rows p (ps ++ q ∷ []) h.0) in
@@ -217,7 +217,7 @@ new_last rows (p ∷ ps) q h =
     behind : list_any (is_called p.name) (ps ++ q ∷ []) ≡ false → is_called p.name q ≡ false
     behind e = last_of ps e
 
-kept_last : (ps : List PoolState) (q : PoolState) → all_kept (ps ++ q ∷ []) ≡ all_kept ps ++ kept q ∷ []
+pub kept_last : (ps : List PoolState) (q : PoolState) → all_kept (ps ++ q ∷ []) ≡ all_kept ps ++ kept q ∷ []
 kept_last [] q = refl
 kept_last (p ∷ ps) q = ap (λ xs. kept p ∷ xs) (kept_last ps q)
 
@@ -281,7 +281,20 @@ put_alike view s name p q valid after found h =
 abbrev paths_of : List DevRow → List Text
 paths_of rows = map (λ (row : DevRow). row.path) rows
 
-some_is : (a b : HaltedInfo) → Some a ≡ Some b → a ≡ b
+paths_on : (tier : Tier) (rack : List DevRow) (new : List Text) → paths_of (rows_on tier rack new) ≡ new
+paths_on tier rack [] = refl
+paths_on tier rack (n ∷ ns) = ap (λ ps. n ∷ ps) (paths_on tier rack ns)
+
+paths_both : (rows more : List DevRow) → paths_of (rows ++ more) ≡ paths_of rows ++ paths_of more
+paths_both [] more = refl
+paths_both (r ∷ rs) more = ap (λ ps. r.path ∷ ps) (paths_both rs more)
+
+paths_grown : (tier : Tier) (rack : List DevRow) (new : List Text) (rows : List DevRow) → paths_of (rows ++ rows_on tier rack new) ++ [] ≡ (paths_of rows ++ []) ++ new
+paths_grown tier rack new rows =
+    append-nil (paths_of (rows ++ rows_on tier rack new)) ∙ (paths_both rows (rows_on tier rack new)
+    ∙ (λ i. sym (append-nil (paths_of rows)) i ++ paths_on tier rack new i))
+
+pub some_is : (a b : HaltedInfo) → Some a ≡ Some b → a ≡ b
 some_is a b h = cc
 
 pub kept_alike : KeptAlike
@@ -290,6 +303,9 @@ kept_alike = record {
   broken = λ serial name paths. refl;
   renamed = λ p new e. rw e refl;
   held = λ p new e. rw e refl;
+  grown = λ a rack new p e. rw e (ap (λ d. record { known = record { name = p.name; serial = p.serial; new = None; devices = d }; halted = None }) (paths_grown a.tier rack new p.devices));
+  taking = λ call p e given. rw e (λ i. record { known = record { name = p.name; serial = p.serial; new = given i; devices = sym (append-nil (paths_of p.devices)) i ++ devices_taken call }; halted = None });
+  unseen = λ call p e none given. rw e (λ i. record { known = record { name = p.name; serial = p.serial; new = given i; devices = paths_of p.devices ++ none i }; halted = None });
   halted = λ p q info serial name e. halted_so p q info q.mode refl serial name e;
   woken = λ p q serial e. rw (e, serial) (ap (λ d. record { known = record { name = q.name; serial = p.serial; new = None; devices = d }; halted = None }) (append-nil (paths_of q.devices)));
 }
@@ -303,7 +319,7 @@ kept_alike = record {
 
 -- ---- which pool a step changes
 
-each_is : (rows : List DevRow) (name : Text) (p : PoolState) (ps : List PoolState) → EachPair (Apart rows) ps → pool_at name ps ≡ Some p → AllByRecursion (λ (q : PoolState). is_called name q ≡ true → q ≡ p) ps
+pub each_is : (rows : List DevRow) (name : Text) (p : PoolState) (ps : List PoolState) → EachPair (Apart rows) ps → pool_at name ps ≡ Some p → AllByRecursion (λ (q : PoolState). is_called name q ≡ true → q ≡ p) ps
 each_is rows name p [] h found = tt
 each_is rows name p (q ∷ ps) h found = here (is_called name q) refl found (each_is rows name p ps h.1)
   where

@@ -1,28 +1,25 @@
 -- pools of a valid state, as the table keeps them, through changes
-use Rattle.std.proofs.Common.{◌≡◌, ℕ, ◌<◌, arith, suc, List, [], ◌∷◌, ◌++◌, append-nil, length, Bool, true, false, cond, not, ◌||◌, ◌&&◌, eqb, bytes_eq, map, insert, Option, Some, None, is_some, refl, sym, ap, subst, ◌∙◌}
-use Rattle.std.specs.Prelude.{find, filter, filter_map, take_while, option_map, nat_lt, ◌==◌}
+use Rattle.std.proofs.Common.{◌≡◌, ℕ, ◌<◌, arith, List, [], ◌∷◌, Bool, true, false, cond, not, bytes_eq, map, Some, None, refl, sym, ap, subst, ◌∙◌}
+use Rattle.std.specs.Prelude.{filter, ◌==◌}
 use Rattle.std.specs.List.{AllByRecursion, list_any}
 use Rattle.std.proofs.lemmas.Bool.Decides.{Decides-eqb}
 use Rattle.st_units.specs.declared.rows.DevRow.{DevRow}
-use Rattle.st_model.specs.declared.call.Call.{Call}
 use Rattle.st_model.specs.declared.state.EngineState.{EngineState}
-use Rattle.st_model.specs.declared.state.KnownPool.{KnownPool}
 use Rattle.st_model.specs.declared.state.PoolMode.{PoolMode}
 use Rattle.st_model.specs.declared.state.PoolMode.TheVariants.{Up, Down, Stopped, Unsettled, Incomplete}
 use Rattle.st_model.specs.declared.state.PoolState.{PoolState}
-use Rattle.st_model.specs.Look.{Text, has_path, row_of, is_called, is_started, uses, holds, flight_of, takes_path}
-use Rattle.st_model.specs.OnTable.{user_of}
-use Rattle.st_model.specs.Parts.{known, is_used, pool_at, paths_taken, table_of}
+use Rattle.st_model.specs.Look.{Text, is_called, is_started, holds}
+use Rattle.st_model.specs.Parts.{known, pool_at, table_of}
 use Rattle.st_model.specs.Shown.{halted_pools}
 use Rattle.st_model.specs.Valid.{IsValid, Apart}
 use Rattle.st_model.specs.ValidPool.{EachPair}
 use Rattle.st_order.specs.Sorted.{entered, ordered}
 use Rattle.st_order.proofs.Order.{eq_same, eq_self, eq_turned, find_none}
-use Rattle.st_order.proofs.Ordered.{EachApart, Alone, filter_ordered, ordered_last, ordered_instead, find_ordered, any_ordered}
-use Rattle.st_order.proofs.Lists.{find-map, any-map, filter-map, entered-map, any_found, or_first, or_second, any_less, found_passes}
-use Rattle.st_table.specs.Stands.{known_name, tabled, info_of, info_in, Stands}
+use Rattle.st_order.proofs.Ordered.{EachApart, filter_ordered}
+use Rattle.st_order.proofs.Lists.{any-map, filter-map, entered-map, or_first, or_second, any_less, found_passes}
+use Rattle.st_table.specs.Stands.{known_name, tabled, info_of, info_in}
 use Rattle.st_table.specs.Steps.{StandsFor, kept}
-use Rattle.st_table.specs.Table.{TablePool, TableView, name_of, is_named, names_of, without}
+use Rattle.st_table.specs.Table.{TablePool, TableView, name_of, is_named, without}
 
 -- ---- pools of a valid state
 
@@ -131,7 +128,7 @@ others_of view s name valid h =
 
 -- ---- the pool of a name, by its serial
 
-serials_apart : (p q : PoolState) → p.serial < q.serial → (q.serial == p.serial) ≡ false
+pub serials_apart : (p q : PoolState) → p.serial < q.serial → (q.serial == p.serial) ≡ false
 serials_apart p q less = here (q.serial == p.serial) refl
   where
     here : (b : Bool) → (q.serial == p.serial) ≡ b → b ≡ false

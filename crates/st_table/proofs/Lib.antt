@@ -3,4 +3,5 @@ mod Changes
 mod Followed
 mod Following
 mod Marks
+mod Placed
 mod Standing

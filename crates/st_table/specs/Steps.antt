@@ -1,6 +1,7 @@
 -- what a change makes of a table that stands for the model's, beside the state that a step of the model leaves
-use Rattle.std.specs.Prelude.{◌≡◌, ℕ, List, [], ◌++◌, map, Option, Some, option_map, true, is_some, if◌then◌else◌}
+use Rattle.std.specs.Prelude.{◌≡◌, ℕ, ◌<◌, List, [], ◌∷◌, ◌++◌, map, Some, None, option_map, true, is_some, if◌then◌else◌}
 use Rattle.st_units.specs.declared.rows.DevRow.{DevRow}
+use Rattle.st_model.specs.declared.call.Call.{Call}
 use Rattle.st_model.specs.declared.call.Call.TheVariants.{RenamePool}
 use Rattle.st_model.specs.declared.state.EngineState.{EngineState}
 use Rattle.st_model.specs.declared.state.KnownPool.{KnownPool}
@@ -8,17 +9,20 @@ use Rattle.st_model.specs.declared.state.PoolMode.TheVariants.{Up}
 use Rattle.st_model.specs.declared.state.PoolState.{PoolState}
 use Rattle.st_model.specs.Checks.{down, halted}
 use Rattle.st_model.specs.Flight.{all_but}
+use Rattle.st_model.specs.Found.{with_own_serial}
 use Rattle.st_model.specs.Lifted as lifted
-use Rattle.st_model.specs.Look.{Text, is_called, row_of}
+use Rattle.st_model.specs.Look.{Text, is_called, row_of, devices_taken, name_given}
 use Rattle.st_model.specs.OnTable.{user_of}
 use Rattle.st_model.specs.Parts.{known, pool_at, table_of, shown_table}
-use Rattle.st_model.specs.Valid.{IsValid}
+use Rattle.st_model.specs.Valid.{IsValid, Apart}
+use Rattle.st_model.specs.ValidPool.{EachPair}
+use Rattle.st_model.specs.steps.AddDevices as adding
 use Rattle.st_model.specs.steps.CreatePool as creating
 use Rattle.st_model.specs.steps.RenamePool as renaming
 use Rattle.st_model.specs.steps.StartPool.{with_serial}
 use Rattle.st_table.specs.declared.halted.HaltedInfo.{HaltedInfo}
 use Rattle.st_table.specs.Stands.{Stands, info_in}
-use Rattle.st_table.specs.Table.{TablePool, TableView, pool_named, user_name, shown, without, with_pool, with_instead, changed, next_above, new_pool, renamed, holding, halted_as, woken}
+use Rattle.st_table.specs.Table.{TablePool, TableView, pool_named, named, user_name, shown, without, with_pool, with_instead, changed, next_above, new_pool, renamed, holding, with_devices, halted_as, woken}
 
 abbrev pub StandsFor : TableView → EngineState → Type 0
 StandsFor view s = Stands view (table_of s)
@@ -36,6 +40,10 @@ with_other name q s = record s { pools = map (λ (p : PoolState). if is_called n
 -- of each name the table keeps what the model has
 abbrev pub PoolsTold : Type 0
 PoolsTold = (view : TableView) (s : EngineState) (name : Text) → IsValid s → StandsFor view s → pool_named name view.pools ≡ option_map kept (pool_at name s.pools)
+
+-- a serial is that of the pool that has it in the model
+abbrev pub SerialsTold : Type 0
+SerialsTold = (view : TableView) (s : EngineState) (serial : ℕ) → IsValid s → StandsFor view s → named serial view.pools ≡ option_map (λ (p : PoolState). p.name) (with_own_serial serial s)
 
 -- a device of the rack is used by the pool that uses it in the model
 abbrev pub UsersTold : Type 0
@@ -63,6 +71,16 @@ abbrev pub PutAlike : Type 0
 PutAlike = (view : TableView) (s : EngineState) (name : Text) (p q : PoolState) → IsValid s → IsValid (with_other name q s) → pool_at name s.pools ≡ Some p → StandsFor view s
     → StandsFor (changed view (with_instead name (kept q) view.pools)) (with_other name q s)
 
+-- a pool of which the table keeps the same as before
+abbrev pub SameAlike : Type 0
+SameAlike = (view : TableView) (s : EngineState) (name : Text) (p q : PoolState) → IsValid s → IsValid (with_other name q s) → pool_at name s.pools ≡ Some p → kept q ≡ kept p → StandsFor view s → StandsFor view (with_other name q s)
+
+-- A pool that was found and isn't started, behind those of lower serials: it is added, on whatever devices, and then halts. The serials
+-- that were given stay given.
+abbrev pub PlacedAlike : Type 0
+PlacedAlike = (view : TableView) (s : EngineState) (q : PoolState) (info : HaltedInfo) (devs : List Text) → EachPair (Apart s.devices) (s.pools ++ q ∷ []) → q.serial < s.next → info_in q q.mode ≡ Some info → StandsFor view s
+    → StandsFor (record (changed view (with_instead q.name (halted_as info (new_pool q.name q.serial devs)) (with_pool (new_pool q.name q.serial devs) view.pools))) { next = next_above q.serial view.next }) (record s { pools = s.pools ++ q ∷ [] })
+
 -- ---- what is put in, as the changes and the steps make it
 
 -- Of a pool p that is up, or of any q that comes after it, the change of the table keeps what the model's step leaves.
@@ -71,6 +89,11 @@ pub record KeptAlike : Type 0 where
   pub broken : (serial : ℕ) (name : Text) (paths : List Text) → kept (creating.broken_pool serial name paths) ≡ new_pool name serial paths
   pub renamed : (p : PoolState) (new : Text) → p.mode ≡ Up → kept (renaming.renamed new p) ≡ renamed new (kept p)
   pub held : (p : PoolState) (new : Text) → p.mode ≡ Up → kept (down (RenamePool p.name new) p) ≡ holding new (kept p)
+  -- devices that a call adds, once it is done and while it is in flight
+  pub grown : (a : adding.Adding) (rack : List DevRow) (new : List Text) (p : PoolState) → p.mode ≡ Up → kept (adding.with_devices a rack new p) ≡ with_devices new (kept p)
+  pub taking : (call : Call) (p : PoolState) → p.mode ≡ Up → name_given call ≡ None → kept (down call p) ≡ with_devices (devices_taken call) (kept p)
+  -- of another call in flight the table keeps nothing
+  pub unseen : (call : Call) (p : PoolState) → p.mode ≡ Up → devices_taken call ≡ [] → name_given call ≡ None → kept (down call p) ≡ kept p
   pub halted : (p q : PoolState) (info : HaltedInfo) → q.serial ≡ p.serial → q.name ≡ p.name → info_in q q.mode ≡ Some info → kept q ≡ halted_as info (kept p)
   pub woken : (p q : PoolState) → q.serial ≡ p.serial → q.mode ≡ Up → kept q ≡ woken q.name (map (λ (row : DevRow). row.path) q.devices) (kept p)
 

@@ -41,6 +41,13 @@ is_named name pool = bytes_eq pool.known.name name
 abbrev pub pool_named : Text → List TablePool → Option TablePool
 pool_named name = find (is_named name)
 
+-- the pool of this serial, and its name
+abbrev pub pool_with : ℕ → List TablePool → Option TablePool
+pool_with serial = find (λ (pool : TablePool). pool.known.serial == serial)
+
+abbrev pub named : ℕ → List TablePool → Option Text
+named serial pools = option_map name_of (pool_with serial pools)
+
 abbrev pub knows : Text → List TablePool → Bool
 knows name = list_any (is_named name)
 

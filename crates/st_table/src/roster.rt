@@ -1,11 +1,11 @@
-ghost use Rattle.std.specs.Prelude.{◌≡◌, ◌+◌, ◌<◌, ◌≤◌, ◌&&◌, not, List, [], map, ◌==◌, filter, filter_map, is_none, true, false, is_some, bytes_eq, find, Option, Some, None, IfOk, OnOk, OnErr, option_copied, option_map, vec_len, vec_capacity};
+ghost use Rattle.std.specs.Prelude.{◌≡◌, ◌+◌, ◌<◌, ◌≤◌, ◌&&◌, not, length, List, [], map, ◌==◌, filter, filter_map, is_none, true, false, is_some, bytes_eq, find, Option, Some, None, IfOk, OnOk, OnErr, option_copied, option_map, vec_len, vec_capacity};
 ghost use Rattle.std.specs.List.{AllByRecursion, list_any, list_all};
 ghost use Rattle.st_units.specs.declared.rows.DevRow.{DevRow};
 ghost use Rattle.st_model.specs.Look.{is_name_of, row_of};
 ghost use Rattle.st_model.specs.OnTable.{is_held, user_of};
 ghost use Rattle.st_model.specs.Parts.{free_of, is_used};
 ghost use Rattle.st_order.specs.Sorted.{IsRising};
-ghost use Rattle.st_table.specs.Table.{TablePool, pool_named, knows, names_of, is_taken, has_serial, IsFree, without, with_pool, stopped_row};
+ghost use Rattle.st_table.specs.Table.{TablePool, pool_named, pool_with, knows, names_of, is_taken, has_serial, IsFree, without, with_pool, stopped_row};
 ghost use Rattle.st_table.specs.inner.Sound.{devices_held, new_held, is_user, table_pool, row_in, path_in, marked, user_among, is_free};
 
 use crate::device::{Device, mark};
@@ -191,6 +191,13 @@ impl Roster {
         Ok(())
     }
 
+    /// How many pools are known.
+    pub(crate) fn count(&self) -> usize
+        ensures { result ≡ length self.now.pools }
+    {
+        self.pools.len()
+    }
+
     /// The pool of this name.
     pub(crate) fn pool(&self, name: &Name) -> Option<&Pool>
         ensures { option_map table_pool (option_copied result) ≡ pool_named name.now self.now.pools }
@@ -227,6 +234,13 @@ impl Roster {
         ensures { result ≡ is_taken name.now self.now.pools }
     {
         self.pool(name).is_some() || has_new_name(&self.pools, name)
+    }
+
+    /// The pool of this serial.
+    pub(crate) fn pool_with(&self, serial: PoolSerial) -> Option<&Pool>
+        ensures { option_map table_pool (option_copied result) ≡ pool_with serial self.now.pools }
+    {
+        of_serial(&self.pools, serial.number())
     }
 
     /// Whether a pool has the serial.

@@ -3,7 +3,7 @@ ghost use Rattle.std.specs.List.{AllByRecursion};
 ghost use Rattle.st_units.specs.declared.rows.DevRow.{DevRow};
 ghost use Rattle.st_model.specs.Look.{row_of};
 ghost use Rattle.st_order.specs.Sorted.{IsRising};
-ghost use Rattle.st_table.specs.Table.{TablePool, TableView, pool_named, knows, runs, is_taken, has_serial, IsFree, without, with_pool, with_instead, changed, next_above, new_pool, renamed, holding, with_devices, halted_as, woken, new_at, halted_at, devices_at, user_name, AreInOrder, shown};
+ghost use Rattle.st_table.specs.Table.{TablePool, TableView, pool_named, named, knows, runs, is_taken, has_serial, IsFree, without, with_pool, with_instead, changed, next_above, new_pool, renamed, holding, with_devices, halted_as, woken, new_at, halted_at, devices_at, user_name, AreInOrder, shown};
 
 use crate::halted::HaltedInfo;
 use crate::pool::{Holding, Pool};
@@ -165,6 +165,23 @@ impl Table {
         ensures { result ≡ has_serial serial self.now.pools }
     {
         self.roster.has_serial(serial)
+    }
+
+    /// How many pools are known.
+    pub fn pools(&self) -> usize
+        ensures { result ≡ length self.now.pools }
+    {
+        self.roster.count()
+    }
+
+    /// The name of the known pool that has the serial.
+    pub fn named(&self, serial: PoolSerial) -> Option<&Name>
+        ensures { option_copied result ≡ named serial self.now.pools }
+    {
+        match self.roster.pool_with(serial) {
+            Some(pool) => Some(&pool.name),
+            None => None,
+        }
     }
 
     /// Whether memory for a change is there.
