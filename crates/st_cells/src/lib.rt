@@ -1,0 +1,16 @@
+//! Laws of the started pools of a state, which are kept in any order, through a change of one pool. They do nothing when they run.
+#![tactic(auto)]
+
+ghost use Rattle.st_cells.specs.Cells.{Added, Dropped, EachOwn, Halted, NoMore, NoneOut, Started, TakenOut};
+
+/// What the started pools are after a change of one pool.
+pub fn the_started_pools()
+    ensures taken { TakenOut }
+    ensures none { NoneOut }
+    ensures added { Added }
+    ensures started { Started }
+    ensures halted { Halted }
+    ensures dropped { Dropped }
+    ensures no_more { NoMore }
+    ensures each { EachOwn }
+{}
