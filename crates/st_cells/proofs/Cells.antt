@@ -1,6 +1,6 @@
 -- the started pools through a change of one pool
-use Rattle.std.proofs.Common.{◌≡◌, ℕ, suc, zero, ◌<◌, ◌≤◌, List, [], ◌∷◌, ◌++◌, Bool, true, false, cond, not, ◌||◌, bytes_eq, map, remove, length, Option, Some, None, is_some, inl, inr, ◌⊎◌, refl, sym, ap, subst, ◌∙◌, arith}
-use Rattle.std.specs.Prelude.{find, filter, slice_get}
+use Rattle.std.proofs.Common.{◌≡◌, ℕ, suc, zero, ◌≤◌, List, [], ◌∷◌, ◌++◌, Bool, true, false, cond, not, ◌||◌, bytes_eq, map, length, Option, Some, None, is_some, inl, inr, ◌⊎◌, refl, sym, ap, subst, ◌∙◌, arith}
+use Rattle.std.specs.Prelude.{filter, slice_get}
 use Rattle.std.specs.List.{AllByRecursion, IsDistinct, list_any}
 use Rattle.std.specs.Option.{option_or}
 use Rattle.std.specs.Cmp.Lexicographic.{nat_list_eq_equiv}
@@ -16,13 +16,12 @@ use Rattle.st_model.specs.Look.{Text, is_called, is_started}
 use Rattle.st_model.specs.Parts.{own, pool_at, started}
 use Rattle.st_model.specs.Pieces.{AreNamedApart, ArePools, every}
 use Rattle.st_model.specs.Shown.{started_pools}
-use Rattle.st_model.specs.Valid.{Apart, IsValid}
+use Rattle.st_model.specs.Valid.{Apart}
 use Rattle.st_model.specs.ValidPool.{EachPair}
-use Rattle.st_model.specs.steps.CreatePool.{with_pool}
 use Rattle.st_model.proofs.Lists.{EachPair-filter}
 use Rattle.st_table.specs.Steps.{with_other}
 use Rattle.st_cells.specs.Cells.{Added, Becomes, Dropped, EachOwn, Halted, NoMore, NoneOut, Started, TakenOut, others}
-use Rattle.st_cells.proofs.Lookups.{after_put, but_others, differ, drop_at, eq_of, eq_self, instead, keep, none_out, own_is, put_at, unequal}
+use Rattle.st_cells.proofs.Lookups.{after_put, but_others, differ, drop_at, eq_of, eq_self, instead, keep, none_out, own_is, put_at}
 
 abbrev name_of : PoolState → Text
 name_of p = p.name

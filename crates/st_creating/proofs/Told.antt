@@ -1,8 +1,7 @@
 -- what the table tells of a CreatePool is what the model answers
-use Rattle.std.proofs.Common.{◌≡◌, List, [], ◌∷◌, Bool, true, false, cond, ◌&&◌, ◌||◌, bytes_eq, length, nat_le, nat_lt, find, Option, Some, None, is_some, is_none, option_map, refl, sym, ap, subst, ◌∙◌}
+use Rattle.std.proofs.Common.{◌≡◌, List, [], ◌∷◌, Bool, true, false, cond, ◌&&◌, ◌||◌, bytes_eq, length, nat_le, nat_lt, find, Option, Some, None, is_some, is_none, option_map, refl, ap, ◌∙◌}
 use Rattle.std.specs.List.{AllByRecursion}
 use Rattle.st_limits.specs.declared.TheConstants.{MAX_POOLS, MAX_POOL_DEVICES, MAX_POOL_SERIAL}
-use Rattle.st_units.specs.declared.cause.Cause.{Cause}
 use Rattle.st_units.specs.declared.cause.Cause.TheVariants.{DeviceInUse, NoSuchDevice, TooManyDevices, TooManyPools}
 use Rattle.st_units.specs.declared.rows.DevRow.{DevRow}
 use Rattle.st_model.specs.declared.reply.Reply.{Reply}
@@ -18,7 +17,7 @@ use Rattle.st_model.specs.OnTable.{first_taken, held_answer, is_held, table_answ
 use Rattle.st_model.specs.Parts.{own, pool_at, started, table_of}
 use Rattle.st_model.specs.Shown.{pool_info, shown_mode}
 use Rattle.st_model.specs.Valid.{IsValid}
-use Rattle.st_model.specs.steps.CreatePool.{create_answer, data_paths, is_made, same_set}
+use Rattle.st_model.specs.steps.CreatePool.{data_paths, is_made, same_set}
 use Rattle.st_model.proofs.Lists.{All-weaker, none_found}
 use Rattle.st_model.proofs.OnTable.{table_answer-is}
 use Rattle.st_table.specs.Stands.{Alike}
