@@ -1,0 +1,11 @@
+pub mod Newest
+pub mod Headers
+pub mod Rows
+pub mod Blocks
+pub mod Same
+pub mod Using
+pub mod Known
+pub mod Part
+pub mod Finding
+pub mod Parting
+pub mod Freeing
