@@ -1,0 +1,4 @@
+mod Before
+mod Creating
+mod Finding
+mod Starting
