@@ -15,11 +15,13 @@ use Rattle.st_history.specs.declared.log.Event.{Event}
 use Rattle.st_history.specs.declared.log.Event.TheVariants.{Grant}
 use Rattle.st_history.specs.History.{moves_of, replay}
 use Rattle.st_history.specs.Own.{row_told}
+use Rattle.st_history.proofs.Failures.{failures-few}
 use Rattle.st_history.proofs.Snoc.{replay-snoc}
 use Rattle.st_book.specs.declared.noted.Noted.{Noted}
 use Rattle.st_book.specs.declared.part.Part.{Part}
 use Rattle.st_book.specs.Noted.{noted_log, numbers_past, grant_count, grant_with, IsNoted}
 use Rattle.st_book.specs.View.{BookView, lent_at}
+use Rattle.st_book.proofs.Lending.{lent_left}
 use Rattle.st_book.proofs.Numbers.{noted-granted}
 use Rattle.st_lock.specs.declared.guard.Guard.{Guard}
 use Rattle.st_lock.specs.declared.guard.Ticket.{Ticket}
@@ -101,6 +103,21 @@ whole_number o base b n xs t seat faults cut r fits is goes lock at lent short =
     let live : (marked t r).live ≡ true = ap (λ z. r.live || z) same ∙ or_true r.live in
     let alive : IsLive n.lock t = subst (λ (l : Lock). IsLive l t) (sym lock) (rw mine live) in
     sym (fits.stands.noted seat t cut there alive) ∙ lent (omega arith)
+
+-- a call fails at most twice an event, so the faults of what goes out are few
+pub few_number : (o : EngineState) (base : ℕ) (b n : BookView) (xs more : List Noted) (t faults : ℕ) → Fits (record { state = o; base = base }) n → xs ≡ noted_of n → noted_of n ≡ noted_of b ++ more
+    → (length b.log < 2 ^ 62 → lent_at t n.lent ≡ faults) → length xs < 2 ^ 62 → faults < 2 ^ 63
+few_number o base b n xs more t faults fits is goes lent short =
+    let long : length xs ≡ length (noted_of n) = ap length is in
+    let all : length (noted_of n) ≡ length (noted_of b ++ more) = ap length goes in
+    let both = length-append (noted_of b) more in
+    let before = noted_len b.log b.notes in
+    let len = noted_len n.log n.notes in
+    let mine = lent (omega arith) in
+    let counted = fits.stands.faults (omega arith) in
+    let few = failures-few o n.log fits.stands.history in
+    let part = lent_left t n.lent in
+    omega arith
 
 pub none_more : {P : Type 0} (o : Result P ℕ) (own new more : List Noted) → new ≡ own ++ more → OnErr o (more ≡ []) → OnErr o (new ≡ own)
 none_more (Ok p) own new more is h = tt

@@ -130,6 +130,7 @@ impl<C: Cell, T: Board> AllOrSome<C, T> {
         ensures due { IfGranted result (λ g. g.part.short ≡ true → IfSome (own_row ticket.number seat.old) (λ r. takes_table r.want ≡ false)) }
         ensures slack { IfGranted result (λ g. IfSome g.part.table (λ t. seat.new.opening.base ≤ T.slack t)) }
         ensures whole { IfGranted result (λ g. length seat.new.seen < 2 ^ 62 → min (faults_in T.fault_count C.fault_count g.part.table g.part.cells.items) (2 ^ 64 - 1) ≡ faults_in T.fault_count C.fault_count g.part.table g.part.cells.items) }
+        ensures few { IfGranted result (λ g. length seat.new.seen < 2 ^ 62 → faults_in T.fault_count C.fault_count g.part.table g.part.cells.items < 2 ^ 63) }
         ensures kept { IfGranted result (λ g. AllByRecursion C.is_kept g.part.cells.items × IfSome g.part.table T.is_kept) }
         ensures places { IfGranted result (λ g. 16 ≤ length g.part.cells.items + g.part.cells.room) }
         ensures blocked { IfNotYet result (λ t u. (t ≡ ticket) × IsLeastBlocker (lock_at seat.new) ticket.number u) }
@@ -158,6 +159,7 @@ impl<C: Cell, T: Board> AllOrSome<C, T> {
         ensures due { result.part.short ≡ true → IfSome (own_row ticket.number seat.old) (λ r. takes_table r.want ≡ false) }
         ensures slack { IfSome result.part.table (λ t. seat.new.opening.base ≤ T.slack t) }
         ensures whole { length seat.new.seen < 2 ^ 62 → min (faults_in T.fault_count C.fault_count result.part.table result.part.cells.items) (2 ^ 64 - 1) ≡ faults_in T.fault_count C.fault_count result.part.table result.part.cells.items }
+        ensures few { length seat.new.seen < 2 ^ 62 → faults_in T.fault_count C.fault_count result.part.table result.part.cells.items < 2 ^ 63 }
         ensures kept { AllByRecursion C.is_kept result.part.cells.items × IfSome result.part.table T.is_kept }
         ensures places { 16 ≤ length result.part.cells.items + result.part.cells.room }
     {

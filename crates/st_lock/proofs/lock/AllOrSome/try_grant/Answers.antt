@@ -7,7 +7,7 @@ use Rattle.st_lock.specs.Held.{faults_in}
 use Rattle.st_lock.specs.Opening.{events_of, noted_of}
 use Rattle.st_lock.specs.Seats.{LockSeat, lock_seat, opened}
 use Rattle.st_lock.proofs.Turns.{fits_still, fits_of, is_open, row_granted, turn_later}
-use Rattle.st_lock.proofs.Granting.{Waits, waits_in, grant_goes, guard_if, guard_none, guard_blocked, seen_lock, seen_state, whole_number, none_more, ok_at, row_live}
+use Rattle.st_lock.proofs.Granting.{Waits, waits_in, grant_goes, guard_if, guard_none, guard_blocked, seen_lock, seen_state, whole_number, few_number, none_more, ok_at, row_live}
 use Rattle.st_lock.specs.declared.desk.Opening.{Opening}
 use Rattle.st_lock.proofs.lock.AllOrSome.try_grant.Goals as goal
 
@@ -195,6 +195,25 @@ returns-clause-whole g c =
     let lock = rw e at c.grant-granted.ensures.lock in
     let is : m.0 ≡ grant_with v.number t (cut h.part) ∷ [] = ok_at c.grant-granted.result h.part (λ p. m.0 ≡ grant_with v.number t (cut p) ∷ []) e m.3 in
     whole_number (opened u.opening).state (opened u.opening).base b n c.put.new.seat.seen t v.number (faults_in g.T.Board.fault_count g.C.Cell.fault_count h.part.table h.part.cells.items) (cut h.part) w.row fits' x.2 (m.1 ∙ ap (λ z. noted_of b ++ z) is) lock w.at
+    (lent' (opened u.opening).state (opened u.opening).base fits.stands) short)
+
+pub returns-clause-few : goal.returns-clause-few
+returns-clause-few g c =
+    let u = c.seat.inside.seat in
+    let v : LockSeat = lock_seat u in
+    let b = c.take-book.result.book in
+    let t = c.args.ticket.number in
+    let lent = c.take-book.ensures.book in
+    let fits = lent.fitting (opened u.opening) (is_open u.opening c.seat.invariant.1) in
+    let w : Waits v b t = waits_in v b t lent.seen lent.own fits (rw (← c.seat.view_is) at c.requires.waits) in
+    let n = c.grant-granted.new.self in
+    let cut = λ (p : Part g.row.C.Denot g.row.T.Denot g.row.C-Info.Denot g.row.T-Info.Denot). min (faults_in g.T.Board.fault_count g.C.Cell.fault_count p.table p.cells.items) (2 ^ 64 - 1) in
+    let m = grant_goes c.grant-granted.result cut b n t v.number w.row w.at w.seat fits.stands.grants c.grant-granted.ensures.log c.grant-granted.ensures.notes c.grant-granted.ensures.err in
+    let fits' = fits_still (opened u.opening) b n c.grant-granted.ensures.stands fits in
+    let x = turn_later u c.take-book.new.seat c.put.new.seat b n m.0 c.take-book.ensures.view c.put.ensures.view m.1 lent.seen lent.own m.2 fits' in
+    guard_if c.grant-granted.result c.tried.result t _ c.tried.ensures.ok (λ h tk e. λ short.
+    let lent' = rw e at c.grant-granted.ensures.lent in
+    few_number (opened u.opening).state (opened u.opening).base b n c.put.new.seat.seen m.0 t (faults_in g.T.Board.fault_count g.C.Cell.fault_count h.part.table h.part.cells.items) fits' x.2 m.1
     (lent' (opened u.opening).state (opened u.opening).base fits.stands) short)
 
 pub returns-clause-blocked : goal.returns-clause-blocked
