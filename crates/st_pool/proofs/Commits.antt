@@ -2,7 +2,9 @@
 use Rattle.std.proofs.Common.{◌≡◌, ℕ, ◌<◌, ◌^◌, Bool, List, [], map, Option, Some, None, refl, sym, ◌∙◌, ap, subst}
 use Rattle.std.specs.Prelude.{IfSome}
 use Rattle.st_units.specs.declared.rows.FsRow.{FsRow}
+use Rattle.st_deltalog.specs.declared.area.Tail.{Tail}
 use Rattle.st_model.specs.declared.call.Call.{Call}
+use Rattle.st_model.specs.declared.call.Call.TheVariants.{CreatePool, DestroyPool, RenamePool}
 use Rattle.st_model.specs.declared.info.PoolInfo.{PoolInfo}
 use Rattle.st_model.specs.Shown.{fs_info, pool_info}
 use Rattle.st_rack.specs.Device.{Path, State, Image, held}
@@ -11,11 +13,19 @@ use Rattle.st_image.specs.Bears.{paths}
 use Rattle.st_image.specs.Stands.{filesystems_of}
 use Rattle.st_books.specs.declared.books.Books.{Books}
 use Rattle.st_books.specs.Ready.{AreThere, rows_of}
+use Rattle.st_pool.specs.Flights.{IsPoolCall}
 use Rattle.st_pool.specs.View.{now, pool_with, view_of}
 use Rattle.st_pool.specs.Known.{IsPool, IsUp}
 use Rattle.st_pool.specs.inner.Plans.{refusal}
 use Rattle.st_pool.proofs.Answering.{no_flight, not_worn}
 use Rattle.st_pool.proofs.Committing.{rows_path, rows_there}
+
+-- where the next delta goes is no matter
+flies_moved : (b : Books) (tail : Tail) (has : Bool) (list : List Path) (call : Call) → IsPoolCall b list call → IsPoolCall (record b { tail = tail; has_committed = has }) list call
+flies_moved b tail has list (CreatePool name devices) is = is
+flies_moved b tail has list (RenamePool name new) is = is
+flies_moved b tail has list (DestroyPool name) is = is
+flies_moved b tail has list _ is = is
 
 info_bare : (b : Books) (flight : Option Call) (m : Image) → b.flex.filesystems ≡ [] → (pool_info (pool_with b flight m)).filesystems ≡ []
 unfolding pool_info
@@ -34,7 +44,8 @@ module _ {D : Type 0} (devs : D → Devices) (moment : D → ℕ) (state_at : D 
     serial = inv.serial;
     filesystems = inv.filesystems;
     mappings = inv.mappings;
-    is_on = record { on = inv.is_on.on; there = inv.is_on.there; info = inv.is_on.info; spare_info = subst (λ (o : Option PoolInfo). IfSome o (λ i. i ≡ pool_info (pool_with b flight (held (now moment state_at seen))))) (sym none) tt };
+    flies = inv.flies;
+    is_on = record { on = inv.is_on.on; own = inv.is_on.own; info = inv.is_on.info; spare_info = subst (λ (o : Option PoolInfo). IfSome o (λ i. i ≡ pool_info (pool_with b flight (held (now moment state_at seen))))) (sym none) tt };
     stands = inv.stands;
     count_is = inv.count_is;
   }
@@ -67,7 +78,7 @@ module _ {D : Type 0} (devs : D → Devices) (moment : D → ℕ) (state_at : D 
     pool_moved inv = subst (λ (x : Books). IsPool devs moment state_at faults x (Some call) list shown spare rack seen count) moved_is same
       where
         same : IsPool devs moment state_at faults moved (Some call) list shown spare rack seen count
-        same = record { serial = inv.serial; filesystems = inv.filesystems; mappings = inv.mappings; is_on = inv.is_on; stands = inv.stands; count_is = inv.count_is }
+        same = record { serial = inv.serial; filesystems = inv.filesystems; mappings = inv.mappings; flies = flies_moved b to.tail to.has_committed list call inv.flies; is_on = inv.is_on; stands = inv.stands; count_is = inv.count_is }
 
     pub view_moved : (has : Bool) → view_of moment state_at b (Some call) has rack seen count ≡ view_of moment state_at to (Some call) has rack seen count
     view_moved has = ap (λ (x : Books). view_of moment state_at x (Some call) has rack seen count) moved_is

@@ -13,7 +13,7 @@ use Rattle.st_model.specs.Look.{devices_taken}
 use Rattle.st_model.specs.Shown.{pool_info}
 use Rattle.st_model.specs.Step.{outcome}
 use Rattle.st_rack.specs.Device.{Path, State, Image, held}
-use Rattle.st_rack.specs.Calls.{Devices}
+use Rattle.st_rack.specs.Calls.{Devices, Has, names}
 use Rattle.st_rack.specs.Moments.{Always, Keeps}
 use Rattle.st_image.specs.Bears.{paths}
 use Rattle.st_image.specs.Kept.{Kept, in_use}
@@ -22,7 +22,8 @@ use Rattle.st_books.specs.declared.books.Books.{Books}
 use Rattle.st_books.specs.Survived.{Survived}
 use Rattle.st_books.specs.Ready.{AreThere, rows_of}
 use Rattle.st_pool.specs.Answered.{counted, failed}
-use Rattle.st_pool.specs.View.{engine_of, now, pool_with, view_of}
+use Rattle.st_pool.specs.Flights.{IsPoolCall}
+use Rattle.st_pool.specs.View.{IsOwn, engine_of, now, pool_with, view_of}
 use Rattle.st_pool.specs.Known.{IsPool}
 use Rattle.st_pool.specs.Runs.{Runs, never_low}
 use Rattle.st_pool.proofs.Standing.{down_same, rows_are, survived_kept}
@@ -54,7 +55,14 @@ module _ {D : Type 0} (devs : D → Devices) (moment : D → ℕ) (state_at : D 
   rows_path = ap paths (sym rows_now) ∙ inv.is_on.on
 
   pub rows_there : (r : D) → devs r ≡ devs rack → AreThere (devs r) (rows_of b.rec)
-  rows_there r same = subst (λ (ds : Devices). AreThere ds (rows_of b.rec)) (sym same) (subst (λ (ds : Devices). AreThere (devs rack) ds) rows_now inv.is_on.there)
+  rows_there r same = subst (λ (ds : Devices). AreThere ds (rows_of b.rec)) (sym same) (subst (λ (ds : Devices). AreThere (devs rack) ds) rows_now inv.is_on.own.there)
+
+  -- the rack is that of a pool on the same devices
+  pub own_moved : (new : PoolState) (r : D) → devs r ≡ devs rack → in_use new (devs r) ≡ rows_of b.rec → IsOwn new (devs r)
+  own_moved new r same rows = record {
+    there = subst (λ (ds : Devices). AreThere (devs r) ds) (sym rows) (rows_there r same);
+    alone = λ p n has. subst (λ (ds : Devices). names (paths ds) p ≡ true) (rows_now ∙ sym rows) (inv.is_on.own.alone p n (subst (λ (ds : Devices). Has ds p n) same has));
+  }
 
   module _ (call : Call) (takes_none : devices_taken call ≡ []) (r1 : D) (same : devs r1 ≡ devs rack) (P : Option PoolState → Type 0)
       (each : (found : Option PoolState) → P found → Survives (pool_with b (Some call) m) call (devs r1) found)
@@ -65,12 +73,15 @@ module _ {D : Type 0} (devs : D → Devices) (moment : D → ℕ) (state_at : D 
     pub crash_of : Always moment state_at (Kept (in_flight pool call) (devs r1)) rack r1
     crash_of k from until = subst (λ (q : PoolState). Kept q (devs r1) (state_at r1 k)) (sym (down_same b m call)) (flying k from until)
 
-    module _ (rose : Rose (faults rack) (faults r1)) (own other : PoolInfo) (own_is : own ≡ record shown { mode = shows.Down }) (other_is : other ≡ record shown { mode = shows.Down }) where
+    module _ (flies : IsPoolCall b list call) (rose : Rose (faults rack) (faults r1)) (own other : PoolInfo) (own_is : own ≡ record shown { mode = shows.Down }) (other_is : other ≡ record shown { mode = shows.Down }) where
       info_is : record shown { mode = shows.Down } ≡ pool_info (pool_with b (Some call) m)
       info_is = ap (λ (i : PoolInfo). record i { mode = shows.Down }) inv.is_on.info ∙ sym (info_down b m call)
 
       rows_down : in_use (pool_with b (Some call) m) (devs r1) ≡ rows_of b.rec
       rows_down = rows_are b m (Some call) (devs r1) takes_none
+
+      own_down : IsOwn (pool_with b (Some call) m) (devs r1)
+      own_down = own_moved (pool_with b (Some call) m) r1 same rows_down
 
       least : (n before after : ℕ) → n ≤ before → min (before + 1) (2 ^ 64 - 1) ≤ after → min (n + 1) (2 ^ 64 - 1) ≤ after
       least n before after le more = omega (arith, le, more)
@@ -81,9 +92,10 @@ module _ {D : Type 0} (devs : D → Devices) (moment : D → ℕ) (state_at : D 
         serial = inv.serial;
         filesystems = inv.filesystems;
         mappings = inv.mappings;
+        flies = flies;
         is_on = record {
           on = ap paths rows_down ∙ rows_path;
-          there = subst (λ (ds : Devices). AreThere (devs r1) ds) (sym rows_down) (rows_there r1 same);
+          own = own_down;
           info = own_is ∙ info_is;
           spare_info = other_is ∙ info_is;
         };
@@ -105,5 +117,6 @@ module _ {D : Type 0} (devs : D → Devices) (moment : D → ℕ) (state_at : D 
         crash = λ up. crash_of;
         idle = λ down. absurd (cc);
         kept = flying (moment r1) during.later (self_le (moment r1));
+        own = own_down;
         spare = λ e. absurd (cc);
       }

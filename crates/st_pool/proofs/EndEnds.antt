@@ -1,5 +1,5 @@
 -- The ends of an end.
-use Rattle.std.proofs.Common.{◌≡◌, ℕ, ◌+◌, true, is_some, List, Option, Some, None, refl, ◌∙◌}
+use Rattle.std.proofs.Common.{◌≡◌, ℕ, ◌+◌, ◌≤◌, true, is_some, List, Option, Some, None, refl, ◌∙◌}
 use Rattle.std.specs.List.{slice_get}
 use Rattle.st_units.specs.Causes.{Rose}
 use Rattle.st_units.specs.declared.cause.Cause.TheVariants.{OutOfMemory}
@@ -14,7 +14,8 @@ use Rattle.st_model.specs.Answer.{refused}
 use Rattle.st_rack.specs.Device.{Path, State, held}
 use Rattle.st_rack.specs.Calls.{Devices}
 use Rattle.st_rack.specs.Moments.{Keeps}
-use Rattle.st_commit.specs.Ready.{BearsRecord}
+use Rattle.st_deltalog.specs.Bearing.{IsSettled}
+use Rattle.st_commit.specs.Ready.{BearsRecord, IsOf}
 use Rattle.st_image.specs.Looks.{pool_area}
 use Rattle.st_books.specs.declared.books.Books.{Books}
 use Rattle.st_books.specs.Survived.{Survived, IsEither, unless_gone}
@@ -57,19 +58,20 @@ module _ {D : Type 0} (devs : D → Devices) (moment : D → ℕ) (state_at : D 
     module _ (rose : Rose (faults rack) (faults r1)) (own other : PoolInfo) (own_is : own ≡ record shown { mode = shows.Down }) (other_is : other ≡ record shown { mode = shows.Down }) where
       pub ended_down : (flight : Option Call) → Known flight → refusal b flight ≡ None → IsPool devs moment state_at faults b (Some (DestroyPool b.rec.name)) list own (Some other) r1 seen (counted true count)
       ended_down None inv free = pool_down devs moment state_at faults b list shown spare rack seen count inv (DestroyPool b.rec.name) refl r1 same
-          (Either devs moment state_at faults b list shown spare rack seen count inv free) (end_survives devs moment state_at faults b list shown spare rack seen count inv free r1) during rose own other own_is other_is
+          (Either devs moment state_at faults b list shown spare rack seen count inv free) (end_survives devs moment state_at faults b list shown spare rack seen count inv free r1) during refl rose own other own_is other_is
       ended_down (Some call) inv free = let e = no_flight b (Some call) free in absurd (cc)
 
       pub end_failed : (flight : Option Call) → Known flight → refusal b flight ≡ None
           → Runs devs moment state_at faults never_low (DestroyPool b.rec.name) (view_of moment state_at b flight (is_some spare) rack seen count) failed (view_of moment state_at b (Some (DestroyPool b.rec.name)) true r1 seen (counted true count))
       end_failed None inv free = runs_down devs moment state_at faults b list shown spare rack seen count inv (DestroyPool b.rec.name) refl r1 same
-          (Either devs moment state_at faults b list shown spare rack seen count inv free) (end_survives devs moment state_at faults b list shown spare rack seen count inv free r1) during rose own other own_is other_is
+          (Either devs moment state_at faults b list shown spare rack seen count inv free) (end_survives devs moment state_at faults b list shown spare rack seen count inv free r1) during refl rose own other own_is other_is
           (end_fails devs moment state_at faults b list shown spare rack seen count inv free)
       end_failed (Some call) inv free = let e = no_flight b (Some call) free in absurd (cc)
 
     -- it is gone
-    pub end_gone : (b1 : Books) → AreReady b1 (at r1) → b1.rec ≡ record_with b.rec.name true b.rec → b1.generation ≡ b.generation + 1
+    pub end_gone : faults rack ≤ faults r1 → (b1 : Books) → AreReady b1 (at r1) → b1.rec ≡ record_with b.rec.name true b.rec → b1.generation ≡ b.generation + 1
         → ((k : ℕ) (d : Path × ℕ) → slice_get (rows_of b.rec) k ≡ Some d → BearsRecord pool_area b.generation (record_text b.rec) (at r1 d.0))
-        → (flight : Option Call) → Known flight → refusal b flight ≡ None → IsGone devs moment state_at (view_of moment state_at b flight (is_some spare) rack seen count) r1
-    end_gone b1 ready rec_is generation_is before None inv free = is_gone devs moment state_at faults b list shown spare rack seen count inv free r1 same during b1 ready rec_is generation_is before
-    end_gone b1 ready rec_is generation_is before (Some call) inv free = let e = no_flight b (Some call) free in absurd (cc)
+        → ((d : Path) → IsOf list d → IsSettled (at r1 d))
+        → (flight : Option Call) → Known flight → refusal b flight ≡ None → IsGone devs moment state_at faults (view_of moment state_at b flight (is_some spare) rack seen count) r1
+    end_gone later b1 ready rec_is generation_is before settled None inv free = is_gone devs moment state_at faults b list shown spare rack seen count inv free r1 same later during b1 ready rec_is generation_is before settled
+    end_gone later b1 ready rec_is generation_is before settled (Some call) inv free = let e = no_flight b (Some call) free in absurd (cc)

@@ -7,6 +7,7 @@ use Rattle.st_fields.specs.Slot.{Found}
 use Rattle.st_header.specs.Header.{header_of}
 use Rattle.st_poolrec.specs.declared.record.PoolRec.{PoolRec}
 use Rattle.st_poolrec.specs.Record.{IsPoolRec, record_text}
+use Rattle.st_deltalog.specs.Bearing.{IsSettled}
 use Rattle.st_deltalog.specs.Log.{serial_in}
 use Rattle.st_rack.specs.Story.{Content}
 use Rattle.st_rack.specs.Device.{DevState, Leaves, cells}
@@ -130,8 +131,9 @@ module _ (p sectors g : ℕ) (old last : PoolRec) (s : DevState) (own : HasOwnHe
       by true e = absurd (cc)
       by false e = text_of (read_slot pool_area r f) (at_place (zero_or_one r lt)) e
 
-  pub freed : IsFreed p sectors s
-  freed = record {
-    none = λ f leaves q. none_or_gone f leaves.left q;
-    slots = λ f leaves r lt x e. slot_serial f leaves.left r lt x e;
+  pub freed : IsSettled s → IsFreed p sectors s
+  freed settled = record {
+    settled = settled;
+    alone = none_or_gone s.holds (λ i sure. refl);
+    slots = slot_serial s.holds (λ i sure. refl);
   }

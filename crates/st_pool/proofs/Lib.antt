@@ -1,4 +1,5 @@
 pub mod Standing
+pub mod Resting
 pub mod Stepping
 pub mod Answering
 pub mod Surviving
@@ -12,3 +13,7 @@ pub mod Gone
 pub mod RenameEnds
 pub mod EndEnds
 pub mod Commits
+pub mod NewRows
+pub mod Creating
+pub mod Broken
+pub mod Makings

@@ -15,6 +15,8 @@ use Rattle.st_model.specs.Look.{Text, flight_of, gives_name}
 use Rattle.st_rack.specs.Device.{Path, State, held}
 use Rattle.st_rack.specs.Calls.{Devices}
 use Rattle.st_rack.specs.Moments.{Keeps}
+use Rattle.st_deltalog.specs.Bearing.{IsSettled}
+use Rattle.st_commit.specs.Ready.{IsOf}
 use Rattle.st_image.specs.Stands.{state_of}
 use Rattle.st_books.specs.declared.books.Books.{Books}
 use Rattle.st_books.specs.Spelled.{same_flex}
@@ -60,25 +62,25 @@ module _ {D : Type 0} (devs : D → Devices) (moment : D → ℕ) (state_at : D 
       pub renamed_down : (flight : Option Call) → Known flight → rename_refusal b flight new ≡ None
           → IsPool devs moment state_at faults b (Some (RenamePool b.rec.name new)) list own (Some other) r1 seen (counted true count)
       renamed_down None inv free = pool_down devs moment state_at faults b list shown spare rack seen count inv (RenamePool b.rec.name new) refl r1 same
-          (Either devs moment state_at faults b list shown spare rack seen count inv new free) (survives devs moment state_at faults b list shown spare rack seen count inv new free r1) during rose own other own_is other_is
+          (Either devs moment state_at faults b list shown spare rack seen count inv new free) (survives devs moment state_at faults b list shown spare rack seen count inv new free r1) during refl rose own other own_is other_is
       renamed_down (Some call) inv free = let e = no_flight b (Some call) (not_renamed b (Some call) new free) in absurd (cc)
 
       pub rename_failed : (flight : Option Call) → Known flight → rename_refusal b flight new ≡ None
           → Runs devs moment state_at faults never_low (RenamePool b.rec.name new) (view_of moment state_at b flight (is_some spare) rack seen count) failed (view_of moment state_at b (Some (RenamePool b.rec.name new)) true r1 seen (counted true count))
       rename_failed None inv free = runs_down devs moment state_at faults b list shown spare rack seen count inv (RenamePool b.rec.name new) refl r1 same
-          (Either devs moment state_at faults b list shown spare rack seen count inv new free) (survives devs moment state_at faults b list shown spare rack seen count inv new free r1) during rose own other own_is other_is
+          (Either devs moment state_at faults b list shown spare rack seen count inv new free) (survives devs moment state_at faults b list shown spare rack seen count inv new free r1) during refl rose own other own_is other_is
           (fails devs moment state_at faults b list shown spare rack seen count inv new free)
       rename_failed (Some call) inv free = let e = no_flight b (Some call) (not_renamed b (Some call) new free) in absurd (cc)
 
     -- it was done
-    module _ (later : faults rack ≤ faults r1) (b1 : Books) (ready : AreReady b1 (at r1)) (rec_is : b1.rec ≡ record_with new false b.rec) (flex_is : b1.flex ≡ same_flex b.flex)
+    module _ (later : faults rack ≤ faults r1) (b1 : Books) (ready : AreReady b1 (at r1)) (settled : (d : Path) → IsOf list d → IsSettled (at r1 d)) (rec_is : b1.rec ≡ record_with new false b.rec) (flex_is : b1.flex ≡ same_flex b.flex)
         (state_is : state_of b1.generation b1.rec b1.flex (held (at r1)) ≡ state_of (b.generation + 1) (record_with new false b.rec) (same_flex b.flex) (held (at rack)))
         (own other : PoolInfo) (own_is : own ≡ record shown { name = new }) (other_is : other ≡ record shown { name = new }) where
       pub renamed_up : (flight : Option Call) → Known flight → rename_refusal b flight new ≡ None → IsPool devs moment state_at faults b1 flight list own (Some other) r1 r1 count
-      renamed_up None inv free = pool_renamed devs moment state_at faults b list shown spare rack seen count inv new free r1 same during later b1 ready rec_is flex_is state_is own other own_is other_is
+      renamed_up None inv free = pool_renamed devs moment state_at faults b list shown spare rack seen count inv new free r1 same during later b1 ready settled rec_is flex_is state_is own other own_is other_is
       renamed_up (Some call) inv free = let e = no_flight b (Some call) (not_renamed b (Some call) new free) in absurd (cc)
 
       pub rename_done : (flight : Option Call) → Known flight → rename_refusal b flight new ≡ None
           → Runs devs moment state_at faults never_low (RenamePool b.rec.name new) (view_of moment state_at b flight (is_some spare) rack seen count) (answered Plain (accepted (Changed true (Some (Pool b.rec.serial))))) (view_of moment state_at b1 flight true r1 r1 count)
-      rename_done None inv free = runs_renamed devs moment state_at faults b list shown spare rack seen count inv new free r1 same during later b1 ready rec_is flex_is state_is own other own_is other_is
+      rename_done None inv free = runs_renamed devs moment state_at faults b list shown spare rack seen count inv new free r1 same during later b1 ready settled rec_is flex_is state_is own other own_is other_is
       rename_done (Some call) inv free = let e = no_flight b (Some call) (not_renamed b (Some call) new free) in absurd (cc)

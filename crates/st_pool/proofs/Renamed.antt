@@ -20,6 +20,8 @@ use Rattle.st_model.specs.steps.RenamePool.{renamed}
 use Rattle.st_rack.specs.Device.{Path, State, Image, held}
 use Rattle.st_rack.specs.Calls.{Devices}
 use Rattle.st_rack.specs.Moments.{Keeps}
+use Rattle.st_deltalog.specs.Bearing.{IsSettled}
+use Rattle.st_commit.specs.Ready.{IsOf}
 use Rattle.st_image.specs.Bears.{paths}
 use Rattle.st_image.specs.Kept.{in_use}
 use Rattle.st_image.specs.Rack.{IsSerial}
@@ -28,14 +30,14 @@ use Rattle.st_image.specs.Survivors.{Survives}
 use Rattle.st_books.specs.declared.books.Books.{Books}
 use Rattle.st_books.specs.Spelled.{same_flex}
 use Rattle.st_books.specs.Survived.{Survived, IsEither, unless_gone}
-use Rattle.st_books.specs.Ready.{AreReady, AreThere, rows_of, stood, stood_next}
+use Rattle.st_books.specs.Ready.{AreReady, rows_of, stood, stood_next}
 use Rattle.st_pool.specs.Answered.{answered}
-use Rattle.st_pool.specs.View.{engine_of, now, pool_with, view_of}
+use Rattle.st_pool.specs.View.{IsOwn, engine_of, now, pool_with, view_of}
 use Rattle.st_pool.specs.Known.{IsPool, IsUp}
 use Rattle.st_pool.specs.Runs.{Runs, never_low}
 use Rattle.st_pool.specs.inner.Plans.{record_with, rename_refusal}
 use Rattle.st_pool.proofs.Answering.{rename_answer}
-use Rattle.st_pool.proofs.Committing.{crash_of, rows_path, rows_there}
+use Rattle.st_pool.proofs.Committing.{crash_of, own_moved, rows_path}
 use Rattle.st_pool.proofs.Standing.{rows_are, up_kept}
 use Rattle.st_pool.proofs.Stepping.{changed_own, rename_fails, rename_plain}
 use Rattle.st_pool.proofs.Surviving.{survives_rename}
@@ -79,7 +81,7 @@ module _ {D : Type 0} (devs : D → Devices) (moment : D → ℕ) (state_at : D 
   pub survives : (r1 : D) (found : Option PoolState) → Either found → Survives (pool_with b (Some (RenamePool b.rec.name new)) m) (RenamePool b.rec.name new) (devs r1) found
   survives r1 = survives_rename b m (devs r1) (held (at rack)) inv.stands.same new free
 
-  module _ (r1 : D) (same : devs r1 ≡ devs rack) (during : During r1) (later : faults rack ≤ faults r1) (b1 : Books) (ready : AreReady b1 (at r1))
+  module _ (r1 : D) (same : devs r1 ≡ devs rack) (during : During r1) (later : faults rack ≤ faults r1) (b1 : Books) (ready : AreReady b1 (at r1)) (settled : (d : Path) → IsOf list d → IsSettled (at r1 d))
       (rec_is : b1.rec ≡ rec) (flex_is : b1.flex ≡ same_flex b.flex)
       (state_is : state_of b1.generation b1.rec b1.flex (held (at r1)) ≡ state_of (b.generation + 1) rec (same_flex b.flex) (held (at rack)))
       (own other : PoolInfo) (own_is : own ≡ record shown { name = new }) (other_is : other ≡ record shown { name = new }) where
@@ -100,17 +102,21 @@ module _ {D : Type 0} (devs : D → Devices) (moment : D → ℕ) (state_at : D 
     rows_after : in_use after (devs r1) ≡ rows_of b.rec
     rows_after = rows_are b1 (held (at r1)) None (devs r1) refl ∙ rows_same
 
+    own_after : IsOwn after (devs r1)
+    own_after = own_moved devs moment state_at faults b list shown spare rack seen count inv after r1 same rows_after
+
     is_up : IsUp b1 (at r1) (at r1)
-    is_up = record { ready = ready; alive = ap (λ (r : PoolRec). r.gone) rec_is; same = refl }
+    is_up = record { ready = ready; settled = λ d of. settled d (subst (λ (l : List Path). IsOf l d) (ap paths rows_same ∙ rows_path devs moment state_at faults b list shown spare rack seen count inv) of); alive = ap (λ (r : PoolRec). r.gone) rec_is; same = refl }
 
     pub pool_renamed : IsPool devs moment state_at faults b1 None list own (Some other) r1 r1 count
     pool_renamed = record {
       serial = subst (λ (r : PoolRec). IsSerial r.serial) (sym rec_is) inv.serial;
       filesystems = ap (λ (st : FlexState). st.filesystems) flex_is ∙ inv.filesystems;
       mappings = ap (λ (st : FlexState). st.mappings) flex_is ∙ inv.mappings;
+      flies = tt;
       is_on = record {
         on = ap paths rows_after ∙ rows_path devs moment state_at faults b list shown spare rack seen count inv;
-        there = subst (λ (ds : Devices). AreThere (devs r1) ds) (sym rows_after) (rows_there devs moment state_at faults b list shown spare rack seen count inv r1 same);
+        own = own_after;
         info = own_is ∙ info_is;
         spare_info = other_is ∙ info_is;
       };
@@ -138,5 +144,6 @@ module _ {D : Type 0} (devs : D → Devices) (moment : D → ℕ) (state_at : D 
       crash = λ up. crash_of devs moment state_at faults b list shown spare rack seen count inv (RenamePool b.rec.name new) refl r1 same Either (survives r1) during;
       idle = λ e. absurd (cc);
       kept = up_kept b1 (devs r1) (at r1) (at r1) is_up;
+      own = own_after;
       spare = λ e. absurd (cc);
     }

@@ -96,6 +96,7 @@ module _ {D : Type 0} (devs : D → Devices) (moment : D → ℕ) (state_at : D 
     crash = λ up k from until. subst (λ (j : ℕ). Kept (in_flight pool call) (devs rack) (state_at rack j)) (only (moment rack) k from until) (kept_flying call none before up);
     idle = λ down. (refl, refl);
     kept = kept_now;
+    own = inv.is_on.own;
     spare = λ e. (e, refl);
   }
     where

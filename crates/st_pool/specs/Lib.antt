@@ -1,7 +1,9 @@
 pub mod View
+pub mod Flights
 pub mod Known
 pub mod Answered
 pub mod Runs
+pub mod Makes
 pub mod Ends
 pub mod Halts
 pub mod inner

@@ -13,7 +13,7 @@ use Rattle.st_image.specs.Survivors.{in_flight}
 use Rattle.st_image.specs.Kept.{Kept}
 use Rattle.st_pool.specs.declared.reply.PoolReply.{PoolReply}
 use Rattle.st_pool.specs.Answered.{is_device_fault, counted}
-use Rattle.st_pool.specs.View.{PoolView, engine_of, now}
+use Rattle.st_pool.specs.View.{IsOwn, PoolView, engine_of, now}
 
 -- the pools for which no answer says that they are low
 abbrev pub never_low : PoolState → Bool
@@ -39,5 +39,6 @@ pub record Runs {D : Type 0} (devs : D → Devices) (moment : D → ℕ) (state_
   pub idle : is_up old.pool.mode ≡ false → (moment new.rack ≡ moment old.rack) × (state_at new.rack ≡ state_at old.rack)
   -- after the call they keep what it has become
   pub kept : Kept new.pool (devs new.rack) (now moment state_at new.rack)
+  pub own : IsOwn new.pool (devs new.rack)
   -- an info to give is missing only where it was missing, and nothing changed that an info shows
   pub spare : new.spare ≡ false → (old.spare ≡ false) × (pool_info new.pool ≡ pool_info old.pool)

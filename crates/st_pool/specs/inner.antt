@@ -1,3 +1,4 @@
 pub mod Plans
 pub mod Renames
 pub mod Endings
+pub mod Makings

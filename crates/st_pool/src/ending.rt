@@ -49,7 +49,7 @@ impl<R: Rack> Pool<R> {
     /// Ends the pool: its last record says that it is gone.
     #[tactic(none)]
     pub fn end(self, alloc: Global) -> Ended<R>
-        ensures gone { (rack : _) → result ≡ Ended.Gone rack → IsGone R.devs R.moment R.state_at self rack }
+        ensures gone { (rack : _) → result ≡ Ended.Gone rack → IsGone R.devs R.moment R.state_at R.faults self rack }
         ensures kept { (pool answer : _) → result ≡ Ended.Kept pool answer → Runs R.devs R.moment R.state_at R.faults never_low (DestroyPool self.pool.name) self answer pool × (pool ≡ self) }
         ensures broken { (pool : _) → result ≡ Ended.Broken pool → Runs R.devs R.moment R.state_at R.faults never_low (DestroyPool self.pool.name) self failed pool }
     {

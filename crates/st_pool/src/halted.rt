@@ -1,4 +1,4 @@
-ghost use Rattle.std.specs.Prelude.{◌≡◌, ◌≤◌, ◌∷◌, [], None, Some, true, false};
+ghost use Rattle.std.specs.Prelude.{◌≡◌, ◌≤◌, ◌∷◌, [], None, Some, true, false, option_map};
 ghost use Rattle.st_model.specs.declared.call.Call.TheVariants.{StopPool};
 ghost use Rattle.st_model.specs.declared.entry.Env.TheVariants.{Plain};
 ghost use Rattle.st_model.specs.declared.reply.Given.TheVariants.{Changed};
@@ -6,16 +6,17 @@ ghost use Rattle.st_model.specs.declared.reply.Identity.TheVariants as identitie
 ghost use Rattle.st_model.specs.declared.state.PoolState.{PoolState};
 ghost use Rattle.st_model.specs.Answer.{accepted};
 ghost use Rattle.st_model.specs.Checks.{halted};
-ghost use Rattle.st_model.specs.Look.{flight_of, is_started};
+ghost use Rattle.st_model.specs.Look.{is_started};
 ghost use Rattle.st_model.specs.Step.{step};
 ghost use Rattle.st_rack.specs.Moments.{AllCut, Goes};
 ghost use Rattle.st_image.specs.Bears.{paths};
 ghost use Rattle.st_image.specs.Kept.{Kept, in_use};
-ghost use Rattle.st_books.specs.Ready.{AreThere};
-ghost use Rattle.st_pool.specs.Halts.{Halts};
-ghost use Rattle.st_pool.specs.View.{engine_of};
+ghost use Rattle.st_pool.specs.Halts.{Halts, IsQuiet};
+ghost use Rattle.st_pool.specs.View.{IsOwn, engine_of};
 
+use crate::flight::Flight;
 use crate::pool::Pool;
+use st_books::Books;
 use st_model::Call;
 use st_rack::Rack;
 use st_units::{DevList, PoolSerial};
@@ -28,9 +29,7 @@ pub struct Halted<R: Rack> {
     pub(crate) devs: DevList,
     pub(crate) rack: R,
     /// The call that was in flight when the pool was stopped.
-    pub(crate) flight: Option<Call>,
-    /// The commits before that call.
-    pub(crate) commits: u64,
+    pub(crate) flight: Option<Flight>,
     pub(crate) faults: u64,
 }
 
@@ -40,9 +39,19 @@ impl<R: Rack> Model for Halted<R> {
 
     ghost Value = { HaltedView R };
 
-    ghost view = { λ h. record { serial = h.serial; devs = h.devs; rack = h.rack; flight = h.flight; commits = h.commits; faults = h.faults } };
+    ghost view = { λ h. record { serial = h.serial; devs = h.devs; rack = h.rack; flight = h.flight; faults = h.faults } };
 
     ghost invariant = { λ h. h.faults ≤ R.faults h.rack };
+}
+
+/// The call with the books, where there is a call.
+fn with_books(flight: Option<Call>, books: Books) -> Option<Flight>
+    ensures { result ≡ option_map (λ call. record { call = call; books = books }) flight }
+{
+    match flight {
+        Some(call) => Some(Flight { call, books }),
+        None => None,
+    }
 }
 
 impl<R: Rack> Pool<R> {
@@ -69,8 +78,7 @@ impl<R: Rack> Pool<R> {
             serial: PoolSerial::of(books.rec.serial),
             devs,
             rack,
-            flight,
-            commits: books.generation,
+            flight: with_books(flight, books),
             faults,
         }
     }
@@ -80,16 +88,14 @@ impl<R: Rack> Halted<R> {
     /// A pool that a rack's devices stand for, before any operation of it.
     #[tactic(none)]
     pub fn found(serial: PoolSerial, devs: DevList, rack: R) -> Halted<R>
-        ensures halts { (pool : PoolState) → is_started pool.mode ≡ false → flight_of pool.mode ≡ None → serial ≡ pool.serial → paths (in_use pool (R.devs rack)) ≡ devs → AreThere (R.devs rack) (in_use pool (R.devs rack)) → Kept pool (R.devs rack) (R.state_at rack (R.moment rack)) → Halts R.devs R.moment R.state_at pool result }
-        ensures rack { result.rack ≡ rack }
-        ensures faults { result.faults ≡ 0 }
+        ensures halts { (pool : PoolState) → is_started pool.mode ≡ false → serial ≡ pool.serial → paths (in_use pool (R.devs rack)) ≡ devs → IsOwn pool (R.devs rack) → IsQuiet pool (R.devs rack) devs (R.state_at rack (R.moment rack)) → Kept pool (R.devs rack) (R.state_at rack (R.moment rack)) → Halts R.devs R.moment R.state_at pool result }
+        ensures is { result ≡ record { serial = serial; devs = devs; rack = rack; flight = None; faults = 0 } }
     {
         Halted {
             serial,
             devs,
             rack,
             flight: None,
-            commits: 0,
             faults: 0,
         }
     }
@@ -100,8 +106,11 @@ impl<R: Rack> Halted<R> {
         ensures cut { AllCut (R.devs self.old.rack) (R.state_at self.old.rack (R.moment self.old.rack)) (R.state_at self.new.rack (R.moment self.new.rack)) }
         ensures time { Goes R.moment R.state_at (AllCut (R.devs self.old.rack)) self.old.rack self.new.rack }
         ensures halts { (pool : PoolState) → Halts R.devs R.moment R.state_at pool self.old → Halts R.devs R.moment R.state_at pool self.new }
+        ensures same { self.new ≡ record self.old { rack = self.new.rack } }
         ensures devs { R.devs self.new.rack ≡ R.devs self.old.rack }
-        ensures faults { self.new.faults ≡ self.old.faults }
+        ensures reads { R.reads self.new.rack ≡ R.reads self.old.rack }
+        ensures spare { R.spare self.new.rack ≡ R.spare self.old.rack }
+        ensures counted { R.faults self.new.rack ≡ R.faults self.old.rack }
     {
         self.rack.cycle();
     }
@@ -124,7 +133,6 @@ impl<R: Rack> Halted<R> {
             devs: _,
             rack,
             flight: _,
-            commits: _,
             faults: _,
         } = self;
         rack

@@ -2,15 +2,22 @@
 #![tactic(auto)]
 
 mod answers;
+mod beginning;
+mod cell;
 mod ended;
 mod ending;
+mod flight;
 mod halted;
+mod made;
+mod making;
 mod planning;
 mod pool;
 mod renaming;
 mod reply;
 
 pub use ended::Ended;
+pub use flight::Flight;
 pub use halted::Halted;
+pub use made::Made;
 pub use pool::Pool;
 pub use reply::PoolReply;

@@ -73,7 +73,14 @@ pub fn twins_of(
         used: info.used,
         cache: info.cache,
     };
-    let own = shared(alloc, shown)?;
+    twice(alloc, shown)
+}
+
+/// This info, twice.
+pub fn twice(alloc: Global, info: PoolInfo) -> Result<Twins, NoMemory>
+    ensures { IfOk result (AreTwins info) }
+{
+    let own = shared(alloc, info)?;
     let spare = own.copy()?;
     Ok(Twins { own, spare })
 }

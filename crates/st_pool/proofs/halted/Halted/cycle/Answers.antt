@@ -23,11 +23,20 @@ returns-clause-halts g c =
     let B = g.R.Rack.devs in
     let M = g.R.Rack.moment in
     let S = g.R.Rack.state_at in
-    λ pool halts. halts_cycled B M S pool (record { serial = x.serial; devs = x.devs; rack = x.rack; flight = x.flight; commits = x.commits; faults = x.faults }) c.cycle.new.self c.cycle.ensures.devs c.cycle.ensures.cut
+    λ pool halts. halts_cycled B M S pool (record { serial = x.serial; devs = x.devs; rack = x.rack; flight = x.flight; faults = x.faults }) c.cycle.new.self c.cycle.ensures.devs c.cycle.ensures.cut
     (subst (λ (v : HaltedView _). Halts B M S pool v) (sym c.self.view_is) halts)
 
 pub returns-clause-devs : goal.returns-clause-devs
 returns-clause-devs g c = c.cycle.ensures.devs ∙ ap (λ (v : HaltedView _). g.R.Rack.devs v.rack) c.self.view_is
 
-pub returns-clause-faults : goal.returns-clause-faults
-returns-clause-faults g c = ap (λ (v : HaltedView _). v.faults) c.self.view_is
+pub returns-clause-same : goal.returns-clause-same
+returns-clause-same g c = ap (λ (v : HaltedView _). record v { rack = c.cycle.new.self }) c.self.view_is
+
+pub returns-clause-reads : goal.returns-clause-reads
+returns-clause-reads g c = c.cycle.ensures.reads ∙ ap (λ (v : HaltedView _). g.R.Rack.reads v.rack) c.self.view_is
+
+pub returns-clause-spare : goal.returns-clause-spare
+returns-clause-spare g c = c.cycle.ensures.spare ∙ ap (λ (v : HaltedView _). g.R.Rack.spare v.rack) c.self.view_is
+
+pub returns-clause-counted : goal.returns-clause-counted
+returns-clause-counted g c = c.cycle.ensures.faults ∙ ap (λ (v : HaltedView _). g.R.Rack.faults v.rack) c.self.view_is

@@ -227,10 +227,10 @@ returns-in-Ok-clause-gone g c =
     let b1 = c.commit_next.new.books in
     let plan = c.in-Ok-Planned.plan in
     let during = subst (λ (r : PoolRec). Keeps M S (Survived x.books.rec.serial (rows_of x.books.rec) (IsEither (stood x.books m0) (unless_gone r (stood_next x.books r m0)))) x.rack r1) planned.1.rec_is c.commit_next.ensures.during in
-    let gone = end_gone B M S F x.books x.devs x.shown x.spare x.rack x.seen.value x.faults r1 c.commit_next.ensures.devs during b1 c.in-Ok.ensures.done.0 (c.in-Ok.ensures.rec ∙ planned.1.rec_is) c.in-Ok.ensures.generation c.in-Ok.ensures.borne_before x.flight inv none in
+    let gone = end_gone B M S F x.books x.devs x.shown x.spare x.rack x.seen.value x.faults r1 c.commit_next.ensures.devs during c.commit_next.ensures.cause.later b1 c.in-Ok.ensures.done.0 (c.in-Ok.ensures.rec ∙ planned.1.rec_is) c.in-Ok.ensures.generation c.in-Ok.ensures.borne_before c.in-Ok.ensures.settled x.flight inv none in
     λ rack e.
     let same : r1 ≡ rack = cc in
-    subst (λ (v : PoolView _). IsGone B M S v rack) c.self.view_is (subst (λ (r : _). IsGone B M S (view_of M S x.books x.flight (is_some x.spare) x.rack x.seen.value x.faults) r) same gone)
+    subst (λ (v : PoolView _). IsGone B M S F v rack) c.self.view_is (subst (λ (r : _). IsGone B M S F (view_of M S x.books x.flight (is_some x.spare) x.rack x.seen.value x.faults) r) same gone)
 
 pub returns-in-Err-commit_next-clause-broken : goal.returns-in-Err-commit_next-clause-broken
 returns-in-Err-commit_next-clause-broken g c =

@@ -218,7 +218,7 @@ invariant_of-self g c =
     let state_is = c.in-Ok.ensures.done.1 ∙ ap (λ (r : PoolRec). state_of (x.books.generation + 1) r (same_flex x.books.flex) m0) planned.1.rec_is in
     let named = ap (λ (i : PoolInfo). record i { name = new }) c.value.ensures in
     subst (λ (r : _). IsPool B M S F b1 x.flight x.devs c.in-Ok-Planned.done.own (Some c.in-Ok-Planned.done.spare) r1 r x.faults) (sym c.of.ensures)
-    (renamed_up B M S F x.books x.devs x.shown x.spare x.rack x.seen.value x.faults new r1 c.commit_next.ensures.devs during c.commit_next.ensures.cause.later b1 c.in-Ok.ensures.done.0 rec_is c.in-Ok.ensures.flex state_is c.in-Ok-Planned.done.own c.in-Ok-Planned.done.spare (planned.2.own ∙ named) (planned.2.spare ∙ named) x.flight inv free)
+    (renamed_up B M S F x.books x.devs x.shown x.spare x.rack x.seen.value x.faults new r1 c.commit_next.ensures.devs during c.commit_next.ensures.cause.later b1 c.in-Ok.ensures.done.0 c.in-Ok.ensures.settled rec_is c.in-Ok.ensures.flex state_is c.in-Ok-Planned.done.own c.in-Ok-Planned.done.spare (planned.2.own ∙ named) (planned.2.spare ∙ named) x.flight inv free)
 
 pub returns-in-Ok : goal.returns-in-Ok
 returns-in-Ok g c =
@@ -243,7 +243,7 @@ returns-in-Ok g c =
     subst (λ (v : PoolView _). Runs B M S F never_low (RenamePool v.pool.name new) v c.changed.result (view_of M S b1 x.flight true r1 c.of.result.value x.faults)) c.self.view_is
     (subst (λ (r : _). Runs B M S F never_low (RenamePool x.books.rec.name new) (view_of M S x.books x.flight (is_some x.spare) x.rack x.seen.value x.faults) c.changed.result (view_of M S b1 x.flight true r1 r x.faults)) (sym c.of.ensures)
     (subst (λ (a : PoolReply). Runs B M S F never_low (RenamePool x.books.rec.name new) (view_of M S x.books x.flight (is_some x.spare) x.rack x.seen.value x.faults) a (view_of M S b1 x.flight true r1 r1 x.faults)) (sym told)
-    (rename_done B M S F x.books x.devs x.shown x.spare x.rack x.seen.value x.faults new r1 c.commit_next.ensures.devs during c.commit_next.ensures.cause.later b1 c.in-Ok.ensures.done.0 rec_is c.in-Ok.ensures.flex state_is c.in-Ok-Planned.done.own c.in-Ok-Planned.done.spare (planned.2.own ∙ named) (planned.2.spare ∙ named) x.flight inv free)))
+    (rename_done B M S F x.books x.devs x.shown x.spare x.rack x.seen.value x.faults new r1 c.commit_next.ensures.devs during c.commit_next.ensures.cause.later b1 c.in-Ok.ensures.done.0 c.in-Ok.ensures.settled rec_is c.in-Ok.ensures.flex state_is c.in-Ok-Planned.done.own c.in-Ok-Planned.done.spare (planned.2.own ∙ named) (planned.2.spare ∙ named) x.flight inv free)))
 
 pub invariant_of-self-in-Err-commit_next : goal.invariant_of-self-in-Err-commit_next
 invariant_of-self-in-Err-commit_next g c =

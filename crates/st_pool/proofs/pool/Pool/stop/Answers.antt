@@ -1,4 +1,4 @@
-use Rattle.std.proofs.Common.{◌≡◌, ℕ, true, ◌∷◌, [], Some, sym, ap, subst}
+use Rattle.std.proofs.Common.{◌≡◌, ℕ, true, ◌∷◌, [], Option, Some, sym, ap, subst}
 use Rattle.st_model.specs.declared.call.Call.TheVariants.{StopPool}
 use Rattle.st_model.specs.declared.entry.Env.TheVariants.{Plain}
 use Rattle.st_model.specs.declared.reply.Given.TheVariants.{Changed}
@@ -9,9 +9,10 @@ use Rattle.st_model.specs.Answer.{accepted}
 use Rattle.st_model.specs.Checks.{halted}
 use Rattle.st_model.specs.Step.{step}
 use Rattle.st_rack.specs.Device.{held}
+use Rattle.st_pool.specs.declared.flight.Flight.{Flight}
 use Rattle.st_pool.specs.Halts.{Halts}
 use Rattle.st_pool.specs.View.{PoolView, engine_of, pool_with}
-use Rattle.st_pool.proofs.Halting.{halts, stop_is}
+use Rattle.st_pool.proofs.Halting.{flight_with, halts, stop_is}
 use Rattle.st_pool.proofs.pool.Pool.stop.Goals as goal
 
 pub of-requires-clause-first : goal.of-requires-clause-first
@@ -30,9 +31,10 @@ returns-clause-halts g c =
     let M = g.R.Rack.moment in
     let S = g.R.Rack.state_at in
     let F = g.R.Rack.faults in
-    subst (λ (v : PoolView _). Halts B M S (halted v.pool) (record { serial = c.of.result; devs = x.devs; rack = x.rack; flight = x.flight; commits = x.books.generation; faults = x.faults })) c.self.view_is
-    (subst (λ (n : ℕ). Halts B M S (halted (pool_with x.books x.flight (held (S x.seen.value (M x.seen.value))))) (record { serial = n; devs = x.devs; rack = x.rack; flight = x.flight; commits = x.books.generation; faults = x.faults })) (sym c.of.ensures)
-    (halts B M S F x.books x.flight x.devs x.shown x.spare x.rack x.seen.value x.faults c.self.invariant))
+    subst (λ (v : PoolView _). Halts B M S (halted v.pool) (record { serial = c.of.result; devs = x.devs; rack = x.rack; flight = c.with_books.result; faults = x.faults })) c.self.view_is
+    (subst (λ (f : Option Flight). Halts B M S (halted (pool_with x.books x.flight (held (S x.seen.value (M x.seen.value))))) (record { serial = c.of.result; devs = x.devs; rack = x.rack; flight = f; faults = x.faults })) (sym c.with_books.ensures)
+    (subst (λ (n : ℕ). Halts B M S (halted (pool_with x.books x.flight (held (S x.seen.value (M x.seen.value))))) (record { serial = n; devs = x.devs; rack = x.rack; flight = flight_with x.books x.flight; faults = x.faults })) (sym c.of.ensures)
+    (halts B M S F x.books x.flight x.devs x.shown x.spare x.rack x.seen.value x.faults c.self.invariant)))
 
 pub returns-clause-replied : goal.returns-clause-replied
 returns-clause-replied g c =
