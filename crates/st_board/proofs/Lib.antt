@@ -1,0 +1,7 @@
+pub mod Serials
+pub mod Halted
+pub mod Changing
+pub mod Going
+pub mod Counting
+pub mod Keeping
+pub mod Lending

@@ -1,0 +1,5 @@
+pub mod View
+pub mod Free
+pub mod Holds
+pub mod Changes
+pub mod Ran
