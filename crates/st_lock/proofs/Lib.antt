@@ -3,3 +3,4 @@ pub mod LastLook
 pub mod Back
 pub mod Granting
 pub mod Staying
+pub mod Sent
