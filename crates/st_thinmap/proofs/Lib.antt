@@ -9,3 +9,4 @@ pub mod Plans
 pub mod Runs
 pub mod Copying
 pub mod Dropping
+pub mod Placed

@@ -251,6 +251,8 @@ impl ThinMap {
     }
 
     /// Maps the blocks of a plan that this map gave to its fresh cells, with no other change of the map since. It takes no memory.
+    /// Where a write goes to two blocks that shared one cell with each other alone, that cell is mapped no more then: `uses_of` of its
+    /// place tells it.
     pub fn apply(&mut self, plan: Plan)
         requires fits { Fits plan.fs plan.fresh self.old.rows self.old.next }
         requires next { self.old.next < 2 ^ 63 - 1 }

@@ -38,6 +38,7 @@ impl ThinMap {
         ensures fits { IfOk result (λ plan. Fits fs plan.fresh self.old.rows self.old.next) }
         ensures below { IfOk result (λ plan. All (λ (x : Fresh). x.place < used self.old.rows + length plan.fresh) plan.fresh) }
         ensures space { OnOk result (needed fs first last self.old.rows ≤ allocated - used self.old.rows) }
+        ensures placed { IfOk result (λ plan. All (λ (x : Fresh). x.place < allocated) plan.fresh) }
         ensures room { OnOk result (2 ≤ self.new.room) }
         ensures kept { self.old.room ≤ self.new.room }
         ensures rows { self.new.rows ≡ self.old.rows }
