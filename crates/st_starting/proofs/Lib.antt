@@ -1,0 +1,9 @@
+pub mod Devices
+pub mod Pairs
+pub mod Restrict
+pub mod History
+pub mod Moments
+pub mod Taken
+pub mod Mended
+pub mod Finished
+pub mod Synced

@@ -1,0 +1,11 @@
+//! A pool is started on its devices: they are synced and read, and the newest record is written where it is missing.
+#![tactic(auto)]
+
+mod finding;
+pub mod laws;
+mod outcome;
+mod rows;
+mod starting;
+
+pub use outcome::Start;
+pub use starting::start;
