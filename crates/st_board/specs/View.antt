@@ -1,5 +1,5 @@
 -- What contracts see of the engine's board.
-use Rattle.std.specs.Prelude.{ℕ, ◌+◌, ◌-◌, ◌^◌, ◌==◌, min, Bool, List, map, if◌then◌else◌}
+use Rattle.std.specs.Prelude.{ℕ, ◌+◌, ◌-◌, ◌^◌, min, nat_lt, Bool, List, map, if◌then◌else◌}
 use Rattle.std.specs.List.{sum_by}
 use Rattle.st_model.specs.declared.state.PoolState.{PoolState}
 use Rattle.st_model.specs.declared.state.TableState.{TableState}
@@ -23,9 +23,9 @@ last = 2 ^ 64 - 1
 abbrev pub faults_of : {D : Type 0} → BoardView D → ℕ
 faults_of b = min (b.past + sum_by (λ h. h.faults) b.halted) last
 
--- how far the free devices' count is above `past`; at the last number nothing is known any more, and the slack is as large as can be
+-- how far the free devices' count is above `past`; from the last number on nothing is known any more, and the slack is as large as can be
 abbrev pub slack_of : {D : Type 0} → (D → ℕ) → BoardView D → ℕ
-slack_of faults b = if faults b.free == last then last else faults b.free - b.past
+slack_of faults b = if nat_lt (faults b.free) last then faults b.free - b.past else last
 
 -- the faults of a part with these started pools and the board
 abbrev pub faults_with : {D : Type 0} → List (PoolView D) → BoardView D → ℕ

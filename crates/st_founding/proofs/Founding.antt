@@ -1,5 +1,5 @@
 -- A pool that was made of free devices is one of the engine's.
-use Rattle.std.proofs.Common.{◌≡◌, ℕ, ◌+◌, ◌≤◌, arith, Bool, true, false, ◌||◌, length, List, [], ◌∷◌, ◌++◌, append-nil, map, min, unwrap_or, Option, Some, None, is_some, refl, sym, ap, subst, ◌∙◌}
+use Rattle.std.proofs.Common.{◌≡◌, ℕ, ◌+◌, Bool, true, false, ◌||◌, List, [], ◌∷◌, ◌++◌, append-nil, map, unwrap_or, Option, Some, None, is_some, refl, sym, ap, subst, ◌∙◌}
 use Rattle.std.specs.Prelude.{option_map}
 use Rattle.st_units.specs.declared.rows.DevRow.{DevRow}
 use Rattle.st_units.specs.declared.rows.Tier.TheVariants.{DataTier}
@@ -19,14 +19,14 @@ use Rattle.st_model.specs.Local.{Outcome, where_so}
 use Rattle.st_model.specs.Look.{Text, distinct, has_path, is_started, row_of, uses}
 use Rattle.st_model.specs.Parts.{known, table_of}
 use Rattle.st_model.specs.Step.{outcome, step, wrote}
-use Rattle.st_model.specs.Valid.{IsValid, is_there}
+use Rattle.st_model.specs.Valid.{IsValid}
 use Rattle.st_model.specs.steps.CreatePool.{broken_pool, create_plain, data_rows, new_pool, with_pool}
 use Rattle.st_model.proofs.Validity.{step-keeps}
 use Rattle.st_beside.specs.Beside.{IsBare, beside_made}
 use Rattle.st_beside.proofs.Making.{made_beside}
 use Rattle.st_cells.specs.Tables.{TableWith}
 use Rattle.st_rack.specs.Device.{State}
-use Rattle.st_rack.specs.Calls.{Devices, Has, names}
+use Rattle.st_rack.specs.Calls.{Devices, names}
 use Rattle.st_rack.specs.Moments.{Always}
 use Rattle.st_rack.specs.Parts.{Splits}
 use Rattle.st_image.specs.Kept.{Kept}

@@ -1,7 +1,7 @@
 -- Paths, each once, and rows on them.
-use Rattle.std.proofs.Common.{◌≡◌, ◌≢◌, ℕ, zero, suc, ◌<◌, ◌≤◌, arith, Bool, true, false, cond, not, ◌||◌, length, List, [], ◌∷◌, ◌++◌, map, Option, Some, None, is_some, refl, sym, ap, subst, ◌∙◌}
+use Rattle.std.proofs.Common.{◌≡◌, ◌≢◌, ℕ, zero, suc, ◌≤◌, arith, Bool, true, false, cond, not, ◌||◌, length, List, [], ◌∷◌, map, Option, Some, is_some, refl, sym, ap, subst, ◌∙◌}
 use Rattle.std.specs.Prelude.{option_map, ◌==◌}
-use Rattle.std.specs.List.{AllByRecursion, IsDistinct, list_any, slice_get}
+use Rattle.std.specs.List.{AllByRecursion, IsDistinct, slice_get}
 use Rattle.std.specs.Str.{bytes_eq}
 use Rattle.std.proofs.lemmas.Slice.Eq.{bytes_eq-Decides}
 use Rattle.st_units.specs.declared.rows.DevRow.{DevRow}
@@ -9,11 +9,10 @@ use Rattle.st_units.specs.declared.rows.Tier.{Tier}
 use Rattle.st_model.specs.declared.state.PoolState.{PoolState}
 use Rattle.st_model.specs.Checks.{rows_on}
 use Rattle.st_model.specs.Look.{Text, distinct, has_path, row_of, uses, without}
-use Rattle.st_model.specs.Parts.{is_used, known}
 use Rattle.st_model.specs.ValidPool.{EachPair}
 use Rattle.st_rack.specs.Device.{Path}
 use Rattle.st_rack.specs.Calls.{Devices, Has, sectors_of}
-use Rattle.st_commit.specs.Ready.{AreDistinct, IsOf}
+use Rattle.st_commit.specs.Ready.{AreDistinct}
 use Rattle.st_image.specs.Survivors.{row_of as row_for}
 use Rattle.st_board.proofs.Serials.{used, uses_known}
 

@@ -1,14 +1,13 @@
 -- What is known of free devices on which a pool may be founded.
-use Rattle.std.proofs.Common.{◌≡◌, ◌⊎◌, inl, inr, ℕ, ◌<◌, ◌≤◌, ◌+◌, ◌^◌, arith, Bool, true, false, cond, not, ◌||◌, length, List, [], ◌∷◌, ◌++◌, map, nat_lt, unwrap_or, Option, Some, None, is_some, refl, sym, ap, subst, ◌∙◌}
+use Rattle.std.proofs.Common.{◌≡◌, inr, ℕ, ◌≤◌, arith, Bool, true, false, cond, length, List, nat_lt, Some, None, refl, sym, ap, subst, ◌∙◌}
 use Rattle.std.specs.Prelude.{option_map}
-use Rattle.std.specs.List.{AllByRecursion, IsDistinct, slice_get}
+use Rattle.std.specs.List.{AllByRecursion, IsDistinct}
 use Rattle.std.specs.Str.{bytes_eq}
 use Rattle.st_units.specs.declared.rows.DevRow.{DevRow}
 use Rattle.st_model.specs.declared.state.EngineState.{EngineState}
-use Rattle.st_model.specs.declared.state.PoolState.{PoolState}
 use Rattle.st_model.specs.declared.state.TableState.{TableState}
 use Rattle.st_model.specs.Checks as checks
-use Rattle.st_model.specs.Look.{Text, distinct, has_path, row_of, uses}
+use Rattle.st_model.specs.Look.{Text, distinct, has_path, row_of}
 use Rattle.st_model.specs.Parts.{table_of}
 use Rattle.st_model.specs.Valid.{is_there}
 use Rattle.st_model.proofs.Fresh.{FreeOf, IsFresh, create_fresh}
@@ -24,9 +23,7 @@ use Rattle.st_image.specs.Looks.{pool_area, slot_on}
 use Rattle.st_pool.specs.Halts.{HaltedView}
 use Rattle.st_pool.specs.Makes.{MayTake}
 use Rattle.st_pool.specs.View.{now}
-use Rattle.st_board.specs.Free.{IsFreeFor}
 use Rattle.st_board.specs.Holds.{KeepsTable}
-use Rattle.st_board.proofs.Serials.{used}
 use Rattle.st_founding.specs.Founding.{MayFound}
 use Rattle.st_founding.proofs.Once.{distinct_paths, named_at, once_some, places_apart, unused}
 

@@ -6,7 +6,6 @@ use Rattle.st_model.specs.Answer.{accepted, refused}
 use Rattle.st_model.specs.declared.state.TableState.{TableState}
 use Rattle.st_rack.specs.Parts.{AreApart, Joins}
 use Rattle.st_table.specs.Stands.{Stands}
-use Rattle.st_board.specs.Changes.{HasAdded}
 use Rattle.st_board.specs.Holds.{Holds}
 use Rattle.st_board.specs.View.{BoardView, last}
 use Rattle.st_board.proofs.Lending.{holds_added, holds_back, holds_same, parts_apart}
