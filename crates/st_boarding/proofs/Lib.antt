@@ -1,0 +1,4 @@
+pub mod Used
+pub mod Rows
+pub mod Lists
+pub mod Boards

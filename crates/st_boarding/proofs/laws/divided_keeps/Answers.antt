@@ -1,0 +1,6 @@
+use Rattle.st_boarding.proofs.Boards.{keeps_table}
+use Rattle.st_boarding.proofs.laws.divided_keeps.Goals as goal
+
+pub returns : goal.returns
+returns g c e later parts found finished pools_same devices_same next_from divides told =
+    keeps_table g.R.Rack.devs g.R.Rack.moment g.R.Rack.state_at g.R.Rack.faults g.R.Rack.spare c.args.old.now c.args.rest.now e later parts found finished pools_same devices_same next_from divides told
