@@ -1,33 +1,26 @@
 -- What a rack is divided into keeps the table of the state that was found on it.
-use Rattle.std.proofs.Common.{◌≡◌, ◌⊎◌, inl, inr, ℕ, zero, suc, ◌+◌, ◌<◌, ◌≤◌, Bool, true, false, ◌||◌, cond, List, [], ◌∷◌, length, map, Option, Some, None, refl, sym, ◌∙◌, ap, subst, arith}
+use Rattle.std.proofs.Common.{◌≡◌, ◌⊎◌, inl, inr, ℕ, zero, suc, ◌≤◌, Bool, true, false, ◌||◌, cond, List, [], ◌∷◌, length, map, Option, Some, None, refl, sym, ◌∙◌, ap, subst, arith}
 use Rattle.std.specs.Prelude.{◌==◌, is_some}
 use Rattle.std.specs.Option.{option_map}
 use Rattle.std.specs.List.{slice_get, list_any, IsDistinct}
-use Rattle.std.proofs.lemmas.Bool.{cases_Bool}
 use Rattle.std.proofs.lemmas.Option.{slice_get_within}
 use Rattle.st_units.specs.declared.rows.DevRow.{DevRow}
 use Rattle.st_model.specs.declared.state.EngineState.{EngineState}
-use Rattle.st_model.specs.declared.state.KnownPool.{KnownPool}
 use Rattle.st_model.specs.declared.state.PoolState.{PoolState}
 use Rattle.st_model.specs.Look.{pool_using, row_of, uses}
 use Rattle.st_model.specs.Parts.{is_used, known, table_of}
 use Rattle.st_model.specs.Shown.{halted_pools}
-use Rattle.st_rack.specs.Device.{Path, DevState, State, held}
+use Rattle.st_rack.specs.Device.{Path, State, held}
 use Rattle.st_rack.specs.Calls.{Devices, Has, names, sectors_of}
 use Rattle.st_deltalog.specs.Bearing.{IsSettled}
-use Rattle.st_commit.specs.Standing.{keep}
 use Rattle.st_commit.specs.Ready.{IsOf}
-use Rattle.st_judge.specs.declared.rows.FoundRow.{FoundRow}
 use Rattle.st_image.specs.Bears.{paths}
-use Rattle.st_image.specs.EngineKept as engine
-use Rattle.st_image.specs.Kept.{in_use}
-use Rattle.st_image.specs.Looks.{slot_on}
 use Rattle.st_assemble.specs.Found as found_rows
 use Rattle.st_parting.specs.Found.{AllFinished, IsFoundOn}
 use Rattle.st_parting.specs.Free.{IsFreeIn}
 use Rattle.st_parting.specs.Own.{IsPart, KeepsOwn, used_by}
 use Rattle.st_parting.proofs.Newest.{none_some, some_same}
-use Rattle.st_parting.proofs.Rows.{at_mapped, at_named, mapped_at, not_both}
+use Rattle.st_parting.proofs.Rows.{at_mapped, at_named, not_both}
 use Rattle.st_parting.proofs.Parting.{keeps_own, know, lie_apart, used_so}
 use Rattle.st_parting.proofs.Freeing.{is_free}
 use Rattle.st_pool.specs.Halts.{HaltedView, Halts, IsAs, IsQuiet}
@@ -35,7 +28,7 @@ use Rattle.st_pool.specs.declared.flight.Flight.{Flight}
 use Rattle.st_pool.specs.View.{now}
 use Rattle.st_dividing.specs.Divided.{AreTold, Divides, found_as, is_taken, path_of_row, present_of}
 use Rattle.st_dividing.proofs.Present.{named_present, present_named}
-use Rattle.st_board.specs.Free.{AreFreeFor, AreTheFree, IsClaimed, IsFreeFor}
+use Rattle.st_board.specs.Free.{AreFreeFor, AreTheFree, IsFreeFor}
 use Rattle.st_board.specs.Holds.{AreHalted, KeepsTable}
 use Rattle.st_boarding.proofs.Lists.{all_halted, any_known, fits_all, item_at, known_any, length_map, none_found, rise_distinct, rows_same, serial_found, used_rows}
 use Rattle.st_boarding.proofs.Rows.{list_is}

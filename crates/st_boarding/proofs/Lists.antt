@@ -1,16 +1,15 @@
 -- Pools and their racks, side by side.
-use Rattle.std.proofs.Common.{◌≡◌, ◌⊎◌, inl, inr, ℕ, zero, suc, ◌+◌, ◌<◌, Bool, true, false, ◌||◌, cond, eqb, List, [], ◌∷◌, ◌++◌, length, map, Option, Some, None, refl, sym, ◌∙◌, ap, subst, arith}
-use Rattle.std.specs.Prelude.{◌==◌, filter, find, not}
+use Rattle.std.proofs.Common.{◌≡◌, ◌⊎◌, inl, inr, ℕ, zero, suc, ◌<◌, Bool, true, false, ◌||◌, cond, eqb, List, [], ◌∷◌, ◌++◌, length, map, Some, None, refl, ◌∙◌, ap, arith}
+use Rattle.std.specs.Prelude.{◌==◌, find, not}
 use Rattle.std.specs.Option.{option_map}
 use Rattle.std.specs.List.{slice_get, list_any, AllByRecursion, IsDistinct}
 use Rattle.std.specs.Str.{bytes_eq}
-use Rattle.std.proofs.lemmas.Bool.{eq-eqb, ne_eqb}
-use Rattle.std.proofs.lemmas.Bool.Decides.{nat_tests}
+use Rattle.std.proofs.lemmas.Bool.{ne_eqb}
 use Rattle.std.proofs.lemmas.List.{append-nil}
 use Rattle.st_units.specs.declared.rows.DevRow.{DevRow}
 use Rattle.st_model.specs.declared.state.KnownPool.{KnownPool}
 use Rattle.st_model.specs.declared.state.PoolState.{PoolState}
-use Rattle.st_model.specs.Look.{flight_of, is_started, row_of, uses}
+use Rattle.st_model.specs.Look.{flight_of, is_started, row_of}
 use Rattle.st_model.specs.Parts.{is_used, known, paths_taken}
 use Rattle.st_model.specs.Shown.{halted_pools}
 use Rattle.st_rack.specs.Device.{Path, State}

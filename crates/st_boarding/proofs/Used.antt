@@ -1,18 +1,17 @@
 -- The devices that a pool uses are those of its rows that the rack has.
-use Rattle.std.proofs.Common.{◌≡◌, ◌⊎◌, inl, inr, ℕ, zero, suc, Bool, true, false, cond, List, [], ◌∷◌, ◌++◌, map, Option, Some, None, refl, sym, ◌∙◌, ap, subst}
+use Rattle.std.proofs.Common.{◌≡◌, inl, inr, ℕ, suc, Bool, true, false, cond, List, [], ◌∷◌, map, Some, refl, sym, ◌∙◌, ap, subst}
 use Rattle.std.specs.Prelude.{filter, is_some}
 use Rattle.std.specs.List.{slice_get, IsDistinct}
 use Rattle.std.specs.Str.{bytes_eq}
 use Rattle.std.proofs.lemmas.List.{append-nil}
 use Rattle.st_units.specs.declared.rows.DevRow.{DevRow}
 use Rattle.st_model.specs.declared.state.PoolState.{PoolState}
-use Rattle.st_model.specs.Merged.{merged}
 use Rattle.st_rack.specs.Device.{Path, Image}
-use Rattle.st_rack.specs.Calls.{Devices, Has, Rises, sectors_of, size_in}
+use Rattle.st_rack.specs.Calls.{Devices, Rises, sectors_of, size_in}
 use Rattle.st_judge.proofs.Placed.{has_at}
 use Rattle.st_image.specs.Bears.{HasRow, paths}
-use Rattle.st_image.specs.Kept.{as_pair, in_use, present}
-use Rattle.st_image.specs.Stands.{StandsFor, lacking_of, state_of}
+use Rattle.st_image.specs.Kept.{as_pair, present}
+use Rattle.st_image.specs.Stands.{StandsFor}
 use Rattle.st_parting.specs.Own.{used_by}
 use Rattle.st_parting.proofs.Rows.{all_at, fit_of, rows_distinct}
 use Rattle.st_dividing.specs.Divided.{path_of_row, present_of}
