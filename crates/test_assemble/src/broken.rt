@@ -1,7 +1,7 @@
 // Wrong devices, logs that break a rule, and which serial is told.
-use crate::bytes::{Flex, Rec};
 use crate::site::Device;
 use crate::table::{FLEX, P, PAIR, check, first, second};
+use raw_records::{Flex, Rec};
 use std::test::Fail;
 
 #[test]

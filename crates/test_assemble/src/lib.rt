@@ -5,8 +5,6 @@
 #[cfg(test)]
 mod broken;
 #[cfg(test)]
-mod bytes;
-#[cfg(test)]
 mod said;
 #[cfg(test)]
 mod several;

@@ -1,8 +1,8 @@
 // Several pools, pools that are gone, and the next serial.
-use crate::bytes::{Flex, Rec};
 use crate::said::said;
 use crate::site::{Device, fill, put_device};
 use crate::table::{FLEX, P, PAIR, check, first, second};
+use raw_records::{Flex, Rec};
 use st_assemble::{Found, FoundFault, found};
 use st_memrack::MemRack;
 use st_units::DevPath;

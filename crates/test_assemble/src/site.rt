@@ -3,7 +3,7 @@ ghost use Rattle.std.specs.Prelude.{◌≡◌};
 ghost use Rattle.st_memrack.specs.Blank.{AreDistinct};
 ghost use Rattle.sim_devices.specs.Devices.{has_device};
 
-use crate::bytes::{Flex, Rec, flex_body, header, pool_body, sealed};
+use raw_records::{Flex, Rec, flex_body, header, pool_body, sealed};
 use st_memrack::MemRack;
 use st_rack::Rack;
 use st_units::DevPath;

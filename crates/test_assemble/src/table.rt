@@ -1,7 +1,7 @@
 // Small devices, and what they stand for.
-use crate::bytes::{Flex, Rec};
 use crate::said::said;
 use crate::site::{Device, rack_of};
+use raw_records::{Flex, Rec};
 use st_assemble::found;
 use std::alloc::Global;
 use std::test::Fail;
