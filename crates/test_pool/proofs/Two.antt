@@ -38,7 +38,7 @@ module _ (a b : Path) (differ : bytes_eq a b ≡ false) where
   apart : a ≡ b → ⊥
   apart e = clash (sym ((bytes_eq-Decides a b).1 e) ∙ differ)
 
-  each_of_two : (P : Path → Type 0) → P a → P b → (d : Path) → IsOf (a ∷ b ∷ []) d → P d
+  pub each_of_two : (P : Path → Type 0) → P a → P b → (d : Path) → IsOf (a ∷ b ∷ []) d → P d
   each_of_two P of_a of_b d of = by of.index of.is
     where
       by : (k : ℕ) → slice_get (a ∷ b ∷ []) k ≡ Some d → P d
@@ -46,7 +46,7 @@ module _ (a b : Path) (differ : bytes_eq a b ≡ false) where
       by (suc zero) at = subst P (same b d at) of_b
       by (suc (suc k)) at = absurd (none d at)
 
-  own : AreDistinct (a ∷ b ∷ [])
+  pub own : AreDistinct (a ∷ b ∷ [])
   own i j d at_i at_j = by i j at_i at_j
     where
       by : (i j : ℕ) → slice_get (a ∷ b ∷ []) i ≡ Some d → slice_get (a ∷ b ∷ []) j ≡ Some d → i ≡ j

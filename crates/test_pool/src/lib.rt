@@ -8,4 +8,6 @@ mod calls;
 #[cfg(test)]
 mod site;
 #[cfg(test)]
+mod starts;
+#[cfg(test)]
 mod stops;

@@ -1,6 +1,7 @@
 // Two devices, a pool on them, and what stands in their sectors.
-ghost use Rattle.std.specs.Prelude.{◌≡◌, ◌≤◌, ◌∷◌, [], IfOk, false};
+ghost use Rattle.std.specs.Prelude.{◌≡◌, ◌≤◌, ◌∷◌, [], ℕ, IfOk, IsTrue, false};
 ghost use Rattle.std.specs.Str.{bytes_eq};
+ghost use Rattle.st_rack.specs.Calls.{Has};
 ghost use Rattle.st_rack.specs.Parts.{IsSame};
 ghost use Rattle.st_memrack.specs.MemRack.{mem_devs, mem_moment, mem_state_at, mem_reads};
 ghost use Rattle.st_pool.specs.Makes.{MayTake};
@@ -21,13 +22,28 @@ pub struct Stop {
     pub skip: u64,
 }
 
-fn pair(alloc: Global, first: &DevPath, second: &DevPath) -> Result<DevList, NoMemory>
+pub fn pair(alloc: Global, first: &DevPath, second: &DevPath) -> Result<DevList, NoMemory>
     ensures { IfOk result (λ list. list ≡ first.now ∷ second.now ∷ []) }
 {
     let mut devs = DevList::make(alloc);
     devs.push(first.copy()?)?;
     devs.push(second.copy()?)?;
     Ok(devs)
+}
+
+/// Whether these are two devices that the rack has.
+pub fn has_both(rack: &MemRack, first: &DevPath, second: &DevPath) -> bool
+    ensures differ { IsTrue result → bytes_eq first.now second.now ≡ false }
+    ensures first { IsTrue result → (n : ℕ) × Has (mem_devs rack.now) first.now n }
+    ensures second { IsTrue result → (n : ℕ) × Has (mem_devs rack.now) second.now n }
+{
+    if first.bytes() == second.bytes() {
+        return false;
+    }
+    if rack.sectors(first).is_none() {
+        return false;
+    }
+    rack.sectors(second).is_some()
 }
 
 /// Two blank devices of 8,192 sectors.
