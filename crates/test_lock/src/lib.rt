@@ -2,10 +2,13 @@
 #![tactic(auto)]
 
 #[cfg(test)]
+mod beside;
+#[cfg(test)]
 mod book;
 pub mod creating;
 #[cfg(test)]
 mod grants;
+pub mod lanes;
 #[cfg(test)]
 mod lock;
 #[cfg(test)]
