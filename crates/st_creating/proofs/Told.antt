@@ -98,15 +98,15 @@ module _ (alike : Alike) (users : UsersTold) (view : TableView) (s : EngineState
   answer_alike name paths =
       let same = alike view (table_of s) stands in
       ap (λ (rows : List DevRow). first_answer (no_devices paths ∷ absent_device paths rows ∷ held_told name paths (option_map pool_info (own name s)) (is_taken name view.pools) ∷ refused_by (taken_told view (first_user view paths)) ∷ small_device paths rows
-          ∷ refused_where (nat_lt MAX_POOL_DEVICES (length (distinct paths))) TooManyDevices ∷ refused_where (nat_le MAX_POOLS (length view.pools) || nat_lt MAX_POOL_SERIAL view.next) TooManyPools ∷ [])) stands.devices
+      ∷ refused_where (nat_lt MAX_POOL_DEVICES (length (distinct paths))) TooManyDevices ∷ refused_where (nat_le MAX_POOLS (length view.pools) || nat_lt MAX_POOL_SERIAL view.next) TooManyPools ∷ [])) stands.devices
       ∙ ap (λ (b : Bool). first_answer (no_devices paths ∷ absent_device paths s.devices ∷ held_told name paths (option_map pool_info (own name s)) b ∷ refused_by (taken_told view (first_user view paths)) ∷ small_device paths s.devices
-          ∷ refused_where (nat_lt MAX_POOL_DEVICES (length (distinct paths))) TooManyDevices ∷ refused_where (nat_le MAX_POOLS (length view.pools) || nat_lt MAX_POOL_SERIAL view.next) TooManyPools ∷ [])) (same.held name)
+      ∷ refused_where (nat_lt MAX_POOL_DEVICES (length (distinct paths))) TooManyDevices ∷ refused_where (nat_le MAX_POOLS (length view.pools) || nat_lt MAX_POOL_SERIAL view.next) TooManyPools ∷ [])) (same.held name)
       ∙ ap (λ (h : Option Reply). first_answer (no_devices paths ∷ absent_device paths s.devices ∷ h ∷ refused_by (taken_told view (first_user view paths)) ∷ small_device paths s.devices
-          ∷ refused_where (nat_lt MAX_POOL_DEVICES (length (distinct paths))) TooManyDevices ∷ refused_where (nat_le MAX_POOLS (length view.pools) || nat_lt MAX_POOL_SERIAL view.next) TooManyPools ∷ [])) (held_alike name paths (own name s) (find (is_held name) (table_of s).names))
+      ∷ refused_where (nat_lt MAX_POOL_DEVICES (length (distinct paths))) TooManyDevices ∷ refused_where (nat_le MAX_POOLS (length view.pools) || nat_lt MAX_POOL_SERIAL view.next) TooManyPools ∷ [])) (held_alike name paths (own name s) (find (is_held name) (table_of s).names))
       ∙ ap (λ b. first_answer (no_devices paths ∷ absent_device paths s.devices ∷ held_answer name paths (own name s) (find (is_held name) (table_of s).names) ∷ refused_by (taken_told view (first_user view paths)) ∷ small_device paths s.devices
-          ∷ refused_where (nat_lt MAX_POOL_DEVICES (length (distinct paths))) TooManyDevices ∷ refused_where (nat_le MAX_POOLS b || nat_lt MAX_POOL_SERIAL view.next) TooManyPools ∷ [])) same.count
+      ∷ refused_where (nat_lt MAX_POOL_DEVICES (length (distinct paths))) TooManyDevices ∷ refused_where (nat_le MAX_POOLS b || nat_lt MAX_POOL_SERIAL view.next) TooManyPools ∷ [])) same.count
       ∙ ap (λ b. first_answer (no_devices paths ∷ absent_device paths s.devices ∷ held_answer name paths (own name s) (find (is_held name) (table_of s).names) ∷ refused_by (taken_told view (first_user view paths)) ∷ small_device paths s.devices
-          ∷ refused_where (nat_lt MAX_POOL_DEVICES (length (distinct paths))) TooManyDevices ∷ refused_where (nat_le MAX_POOLS (length (table_of s).names) || nat_lt MAX_POOL_SERIAL b) TooManyPools ∷ [])) stands.next
+      ∷ refused_where (nat_lt MAX_POOL_DEVICES (length (distinct paths))) TooManyDevices ∷ refused_where (nat_le MAX_POOLS (length (table_of s).names) || nat_lt MAX_POOL_SERIAL b) TooManyPools ∷ [])) stands.next
       ∙ fourth (no_devices paths) (absent_device paths s.devices) (held_answer name paths (own name s) (find (is_held name) (table_of s).names)) _ _ _ (taken_alike paths)
 
 pub told_alike : Alike → UsersTold → ToldAlike

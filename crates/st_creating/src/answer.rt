@@ -47,18 +47,11 @@ fn same_set(paths: &[DevPath], others: &[DevPath]) -> bool
 }
 
 /// Whether the pool that is shown is what the call asks for.
-fn is_made(
-    alloc: Global,
-    name: &Name,
-    paths: &[DevPath],
-    info: &PoolInfo,
-) -> Result<bool, NoMemory>
+fn is_made(alloc: Global, name: &Name, paths: &[DevPath], info: &PoolInfo) -> Result<bool, NoMemory>
     ensures { IfOk result (λ made. made ≡ is_shown_made name.now paths.now info.now) }
 {
     let own = data_paths(alloc, info.devs.items())?;
-    Ok(is_shown_up(&info.mode)
-        && info.name.bytes() == name.bytes()
-        && same_set(own.items(), paths))
+    Ok(is_shown_up(&info.mode) && info.name.bytes() == name.bytes() && same_set(own.items(), paths))
 }
 
 /// The answer where a pool holds the name.
