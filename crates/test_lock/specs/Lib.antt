@@ -1,3 +1,2 @@
-pub mod WritesOnly
 pub mod Refusing
 pub mod Creating

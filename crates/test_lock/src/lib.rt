@@ -1,4 +1,4 @@
-//! The lock: which tickets are granted, the book, the turn of two threads, and callers of the whole.
+//! The lock: which tickets are granted, the book, the lock of one thread and of two, and callers of the whole.
 #![tactic(auto)]
 
 #[cfg(test)]
@@ -16,7 +16,5 @@ mod made;
 pub mod plain_lock;
 pub mod refusing;
 pub mod staying;
-#[cfg(test)]
-mod turn;
 #[cfg(test)]
 mod visits;

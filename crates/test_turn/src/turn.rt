@@ -1,6 +1,6 @@
 // The turn, over a book that is a list of numbers, each with the seat that wrote it.
 ghost use Rattle.std.specs.Prelude.{◌≡◌, [], false};
-ghost use Rattle.test_lock.specs.WritesOnly.{WritesOnly};
+ghost use Rattle.test_turn.specs.WritesOnly.{WritesOnly};
 
 use st_turn::{Logged, Turn, TurnSeat, Vacant};
 use std::alloc::Global;

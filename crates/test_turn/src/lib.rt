@@ -1,0 +1,5 @@
+//! The turn of two threads.
+#![tactic(auto)]
+
+#[cfg(test)]
+mod turn;
