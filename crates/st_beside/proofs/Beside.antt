@@ -66,7 +66,11 @@ own_place rows name p (q ∷ ps) apart found = here (is_called name q) refl foun
         ap (λ (t : Bool). cond t p q ∷ map (instead name p) ps) k ∙ ap (λ (x : PoolState). x ∷ map (instead name p) ps) (sym same) ∙ ap (λ (rest : List PoolState). q ∷ rest) (rest_same rows name p q ps k apart.0)
     here false k f more = ap (λ (t : Bool). cond t p q ∷ map (instead name p) ps) k ∙ ap (λ (rest : List PoolState). q ∷ rest) (more f)
 
-not_held : (name : Text) (p : PoolState) (ps : List PoolState) (n : Text) → pool_at n ps ≡ Some p → holder name ps ≡ None → holds name p ≡ false
+-- with a pool of a valid state in its own place the state is the same
+pub same_in_place : (s : EngineState) (p : PoolState) → IsValid s → pool_at p.name s.pools ≡ Some p → with_other p.name p s ≡ s
+same_in_place s p valid here = ap (λ (ps : List PoolState). record s { pools = ps }) (own_place s.devices p.name p s.pools valid.apart here)
+
+pub not_held : (name : Text) (p : PoolState) (ps : List PoolState) (n : Text) → pool_at n ps ≡ Some p → holder name ps ≡ None → holds name p ≡ false
 not_held name p [] n found none = absurd cc
 not_held name p (q ∷ ps) n found none = here (is_called n q) refl (holds name q) refl found none (not_held name p ps n)
   where
@@ -87,12 +91,9 @@ module _ (put : StepsPut) (p : PoolState) (s e : EngineState) (are : IsAlone p s
   found_alone : pool_at p.name e.pools ≡ Some p
   found_alone = ap (pool_at p.name) are.alone ∙ ap (λ (t : Bool). cond t (Some p) None) (called_self p.name)
 
-  same : with_other p.name p s ≡ s
-  same = ap (λ (ps : List PoolState). record s { pools = ps }) (own_place s.devices p.name p s.pools are.valid.apart are.here)
-
   -- what changes nothing of the pool alone, changes nothing here
   left : put_back p e.pools s ≡ s
-  left = ap (λ (ps : List PoolState). put_back p ps s) are.alone ∙ same
+  left = ap (λ (ps : List PoolState). put_back p ps s) are.alone ∙ same_in_place s p are.valid are.here
 
   abbrev Beside : Reply × EngineState → Reply × EngineState → Type 0
   Beside here alone = here ≡ (alone.0, put_back p alone.1.pools s)

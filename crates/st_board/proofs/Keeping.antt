@@ -14,13 +14,13 @@ use Rattle.st_table.specs.Stands.{Stands}
 use Rattle.st_table.specs.Steps.{StepsPut, with_other}
 use Rattle.st_table.specs.Table.{TableView}
 use Rattle.st_pool.specs.Halts.{Halts, HaltedView}
-use Rattle.st_board.specs.Holds.{Holds, KeepsTable}
+use Rattle.st_board.specs.Holds.{HasOthers, Holds, KeepsTable, halted_at, stopped_at}
 use Rattle.st_board.specs.Changes.{HasGone, HasTurned, without}
 use Rattle.st_board.specs.View.{last}
 use Rattle.st_board.proofs.Serials.{halted_fewer, only_one, used, used_own, uses_known}
-use Rattle.st_board.proofs.Changing.{keeps_other, keeps_stopped}
+use Rattle.st_board.proofs.Changing.{keeps_other, keeps_stopped, lacks_other, lacks_stopped}
 use Rattle.st_board.proofs.Counting.{no_more}
-use Rattle.st_board.proofs.Going.{keeps_gone}
+use Rattle.st_board.proofs.Going.{keeps_gone, lacks_gone}
 
 abbrev size_of : DevRow → ℕ
 size_of row = row.sectors
@@ -34,6 +34,10 @@ module _ {D : Type 0} (devs : D → Devices) (moment : D → ℕ) (state_at : D 
   abbrev Kept : TableState → Type 0
   Kept x = KeepsTable devs moment state_at x free halted.items
 
+  -- for a table and these pools that aren't started
+  abbrev Lacks : TableState → List (HaltedView D) → Type 0
+  Lacks x hs = (r : ℕ) → HasOthers devs x.devices (stopped_at r x.stopped) (halted_at r hs)
+
   pub holds_other : StepsPut → (q : PoolState) → HasTurned t u true q → Holds devs moment state_at faults spare table free halted past u
   holds_other law q turned = record {
     whole = with_other turned.pool.name q turned.state;
@@ -41,6 +45,8 @@ module _ {D : Type 0} (devs : D → Devices) (moment : D → ℕ) (state_at : D 
     is = turned.is;
     tells = stands;
     keeps = subst Kept turned.is (keeps_other law turned.state turned.pool q turned.turns devs moment state_at free halted.items turned.started (subst Kept (sym turned.was) h.keeps) turned.mode);
+    lacking = subst (λ x. Lacks x halted.items) turned.is
+        (lacks_other law turned.state turned.pool q turned.turns devs moment state_at free halted.items turned.started (subst Kept (sym turned.was) h.keeps) turned.mode (subst (λ x. Lacks x halted.items) (sym turned.was) h.lacking));
     counted = h.counted;
     places = subst (λ (x : TableState). length x.devices ≤ spare free + length (devs free)) turned.is (subst (λ (x : TableState). length x.devices ≤ spare free + length (devs free)) (sym turned.was) h.places);
     room = h.room;
@@ -69,6 +75,8 @@ module _ {D : Type 0} (devs : D → Devices) (moment : D → ℕ) (state_at : D 
     tells = stands;
     keeps = subst (λ x. KeepsTable devs moment state_at u free x) (sym items) (subst (λ x. KeepsTable devs moment state_at x free (halted.items ++ pool ∷ [])) turned.is
         (keeps_stopped law turned.state turned.pool q turned.turns devs moment state_at free halted.items turned.started (subst Kept (sym turned.was) h.keeps) pool halts));
+    lacking = subst (λ x. Lacks u x) (sym items) (subst (λ x. Lacks x (halted.items ++ pool ∷ [])) turned.is
+        (lacks_stopped law turned.state turned.pool q turned.turns devs moment state_at free halted.items turned.started (subst Kept (sym turned.was) h.keeps) pool halts (subst (λ x. Lacks x halted.items) (sym turned.was) h.lacking)));
     counted = h.counted;
     places = subst (λ (x : TableState). length x.devices ≤ spare free + length (devs free)) turned.is (subst (λ (x : TableState). length x.devices ≤ spare free + length (devs free)) (sym turned.was) h.places);
     room =
@@ -113,7 +121,9 @@ module _ {D : Type 0} (devs : D → Devices) (moment : D → ℕ) (state_at : D 
       is = gone.is;
       tells = stands;
       keeps = subst (λ x. KeepsTable devs moment state_at x joined halted.items) gone.is
-          (keeps_gone devs moment state_at gone.state gone.pool gone.goes gone.started rack gone.freed free joined halted.items joins keeps_was);
+          (keeps_gone devs moment state_at gone.state gone.pool gone.goes rack gone.freed free joined joins halted.items gone.started keeps_was);
+      lacking = subst (λ x. Lacks x halted.items) gone.is
+          (lacks_gone devs moment state_at gone.state gone.pool gone.goes rack gone.freed free joined joins halted.items gone.started keeps_was (subst (λ x. Lacks x halted.items) (sym gone.was) h.lacking));
       counted = let was = h.counted in omega (arith, was, counted, total_is, risen);
       places =
           let was : length gone.state.devices ≤ spare free + length (devs free) = subst (λ (x : TableState). length x.devices ≤ spare free + length (devs free)) (sym gone.was) h.places in

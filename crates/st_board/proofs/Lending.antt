@@ -19,7 +19,7 @@ use Rattle.st_table.specs.Table.{TableView}
 use Rattle.st_pool.specs.Halts.{HaltedView}
 use Rattle.st_pool.specs.View.{now}
 use Rattle.st_board.specs.Free.{IsClaimed, IsFreeFor}
-use Rattle.st_board.specs.Holds.{Fits, Holds, KeepsTable, halted_at}
+use Rattle.st_board.specs.Holds.{Fits, HasOthers, Holds, KeepsTable, halted_at, stopped_at}
 use Rattle.st_board.specs.Changes.{HasAdded}
 use Rattle.st_board.specs.View.{last}
 use Rattle.st_board.proofs.Serials.{at, known_at, same_number, used, uses_known}
@@ -81,6 +81,7 @@ module _ {D : Type 0} (devs : D → Devices) (moment : D → ℕ) (state_at : D 
           (h.keeps.settled p n (subst (λ (ds : Devices). Has ds p n) is.devices has));
       are_halted = h.keeps.are_halted;
     };
+    lacking = h.lacking;
     counted = let was = h.counted in omega (arith, was, counts);
     places = let was = h.places in let count : length (devs same) ≡ length (devs free) = ap length is.devices in omega (arith, was, more, count);
     room = h.room;
@@ -127,6 +128,7 @@ module _ {D : Type 0} (devs : D → Devices) (moment : D → ℕ) (state_at : D 
         settled = λ p n has. states_back p n (sectors_of (devs part) p) refl has;
         are_halted = h.keeps.are_halted;
       };
+      lacking = h.lacking;
       counted = let was = h.counted in omega (arith, was, counts, none, total, small);
       places = let was = h.places in let two = joins.count in let one = splits.count in omega (arith, was, more, room, two, one);
       room = h.room;
@@ -156,6 +158,7 @@ module _ {D : Type 0} (devs : D → Devices) (moment : D → ℕ) (state_at : D 
       is = added.is;
       tells = stands;
       keeps = subst (λ x. KeepsTable devs moment state_at x rest halted.items) added.is keeps;
+      lacking = subst Lack added.is (λ r. subst (λ (ps : List PoolState). HasOthers devs s.devices (at r ps) (halted_at r halted.items)) (sym (halted_last s.pools q added.started)) (subst Lack (sym added.was) h.lacking r));
       counted = let was = h.counted in omega (arith, was, counts);
       places = subst (λ (x : TableState). length x.devices ≤ spare rest + length (devs rest)) added.is places;
       room = h.room;
@@ -163,6 +166,9 @@ module _ {D : Type 0} (devs : D → Devices) (moment : D → ℕ) (state_at : D 
       where
         s : EngineState
         s = added.state
+
+        Lack : TableState → Type 0
+        Lack x = (r : ℕ) → HasOthers devs x.devices (stopped_at r x.stopped) (halted_at r halted.items)
 
         was : KeepsTable devs moment state_at (table_of s) free halted.items
         was = subst (λ x. KeepsTable devs moment state_at x free halted.items) (sym added.was) h.keeps

@@ -1,5 +1,6 @@
 pub mod Serials
 pub mod Halted
+pub mod Present
 pub mod Changing
 pub mod Going
 pub mod Counting

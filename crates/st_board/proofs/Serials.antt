@@ -50,6 +50,15 @@ abbrev pub stopped_in : Option PoolState → Option PoolState
 stopped_in None = None
 stopped_in (Some p) = cond (is_started p.mode) None (Some p)
 
+-- what is so of each pool
+pub all_found : (P : PoolState → Type 0) (r : ℕ) (x : PoolState) (ps : List PoolState) → AllByRecursion P ps → at r ps ≡ Some x → P x
+all_found P r x [] h e = absurd cc
+all_found P r x (y ∷ ys) h e = by (y.serial == r) e (all_found P r x ys h.1)
+  where
+    by : (b : Bool) → cond b (Some y) (at r ys) ≡ Some x → (at r ys ≡ Some x → P x) → P x
+    by true k rest = let same : y ≡ x = cc in subst P same h.0
+    by false k rest = rest k
+
 -- the pools that aren't started, by their serials
 pub found_halted : (rows : List DevRow) (q : ℕ) (ps : List PoolState) → EachPair (Apart rows) ps → at q (halted_pools ps) ≡ stopped_in (at q ps)
 found_halted rows q [] h = refl

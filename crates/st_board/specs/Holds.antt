@@ -1,15 +1,18 @@
 -- When the parts of the engine's board stand for the state of its table.
-use Rattle.std.specs.Prelude.{◌≡◌, ℕ, ◌+◌, ◌≤◌, ◌==◌, List, length, map, find, Option, Some, None}
+use Rattle.std.specs.Prelude.{◌≡◌, ℕ, ◌+◌, ◌≤◌, ◌==◌, List, length, map, find, is_some, option_map, Option, Some, None, if◌then◌else◌}
 use Rattle.std.specs.List.{IsDistinct}
 use Rattle.st_limits.specs.declared.TheConstants.{MAX_POOLS}
+use Rattle.st_units.specs.declared.rows.DevRow.{DevRow}
 use Rattle.st_units.specs.Roomy.{Roomy}
 use Rattle.st_model.specs.declared.state.EngineState.{EngineState}
+use Rattle.st_model.specs.declared.state.PoolMode.TheVariants.{Incomplete}
 use Rattle.st_model.specs.declared.state.PoolState.{PoolState}
 use Rattle.st_model.specs.declared.state.TableState.{TableState}
+use Rattle.st_model.specs.Look.{Text, row_of}
 use Rattle.st_model.specs.Parts.{table_of}
 use Rattle.st_model.specs.Valid.{IsValid}
-use Rattle.st_rack.specs.Device.{State}
-use Rattle.st_rack.specs.Calls.{Devices}
+use Rattle.st_rack.specs.Device.{Path, State}
+use Rattle.st_rack.specs.Calls.{Devices, sectors_of}
 use Rattle.st_table.specs.Stands.{Stands}
 use Rattle.st_table.specs.Table.{TableView}
 use Rattle.st_pool.specs.Halts.{Halts, HaltedView}
@@ -22,6 +25,13 @@ halted_at q halted = find (λ h. h.serial == q) halted
 
 abbrev pub stopped_at : ℕ → List PoolState → Option PoolState
 stopped_at q stopped = find (λ (p : PoolState). p.serial == q) stopped
+
+-- of a pool that lacks a device, the rack has each other device of its rows that the engine has, and nothing else
+abbrev pub HasOthers : {D : Type 0} → (D → Devices) → List DevRow → Option PoolState → Option (HaltedView D) → Type 0
+HasOthers devs rows None h = Unit {0}
+HasOthers devs rows (Some p) None = Unit {0}
+HasOthers devs rows (Some p) (Some h) =
+    (missing : Text) → p.mode ≡ Incomplete missing → (d : Path) → sectors_of (devs h.rack) d ≡ (if is_some (row_of d p.devices) then option_map (λ (row : DevRow). row.sectors) (row_of d rows) else None)
 
 module _ {D : Type 0} (devs : D → Devices) (moment : D → ℕ) (state_at : D → ℕ → State) where
   -- the one stands for the other, or neither is there
@@ -53,6 +63,7 @@ module _ {D : Type 0} (devs : D → Devices) (moment : D → ℕ) (state_at : D 
     pub is : table_of whole ≡ t
     pub tells : Stands table t
     pub keeps : KeepsTable t free halted.items
+    pub lacking : (q : ℕ) → HasOthers devs t.devices (stopped_at q t.stopped) (halted_at q halted.items)
     -- the rack of the free devices has counted each fault of a pool that ended
     pub counted : past ≤ faults free
     -- all devices have a place on it

@@ -29,8 +29,9 @@ use Rattle.st_pool.specs.View.{now}
 use Rattle.st_dividing.specs.Divided.{AreTold, Divides, found_as, is_taken, path_of_row, present_of}
 use Rattle.st_dividing.proofs.Present.{named_present, present_named}
 use Rattle.st_board.specs.Free.{AreFreeFor, AreTheFree, IsFreeFor}
-use Rattle.st_board.specs.Holds.{AreHalted, KeepsTable}
-use Rattle.st_boarding.proofs.Lists.{all_halted, any_known, fits_all, item_at, known_any, length_map, none_found, rise_distinct, rows_same, serial_found, used_rows}
+use Rattle.st_board.specs.Holds.{AreHalted, HasOthers, KeepsTable, halted_at, stopped_at}
+use Rattle.st_board.proofs.Present.{path_of_rows}
+use Rattle.st_boarding.proofs.Lists.{all_halted, any_known, fits_all, item_at, known_any, length_map, none_found, pairs_all, rise_distinct, rows_same, serial_found, used_rows}
 use Rattle.st_boarding.proofs.Rows.{list_is}
 
 same_tests : (a b : Bool) → (a ≡ true → b ≡ true) → (b ≡ true → a ≡ true) → a ≡ b
@@ -164,6 +165,33 @@ module _ {D : Type 0} (devs : D → Devices) (moment : D → ℕ) (state_at : D 
       by : (o : Option ℕ) → sectors_of (devs old) p ≡ o → cond (is_taken parts p) None (sectors_of (devs old) p) ≡ cond (list_any (is_used p) (table_of later).names) None (sectors_of (devs old) p)
       by None is = nothing (is_taken parts p) (sectors_of (devs old) p) is ∙ sym (nothing (list_any (is_used p) (table_of later).names) (sectors_of (devs old) p) is)
       by (Some n) is = ap (λ (b : Bool). cond b None (sectors_of (devs old) p)) (taken_is p n is)
+
+  others_of : (k : ℕ) (pool : PoolState) (h : HaltedView D) → slice_get e.pools k ≡ Some pool → slice_get parts k ≡ Some h → HasOthers devs (table_of later).devices (Some pool) (Some h)
+  others_of k pool h at_pool at_h missing is d =
+      (divides.each k h at_h).devices d ∙ ap (λ (b : Bool). cond b (sectors_of (devs old) d) None) named ∙ by (sectors_of (devs old) d) refl
+      ∙ (λ i. cond (rows i) (sym (devices_are d) i) None)
+    where
+      named : names h.devs d ≡ names (present_of (devs old) pool.devices) d
+      named = ap (λ (x : HaltedView D). names x.devs d) (part_is k pool h at_pool at_h)
+
+      rows : names (map path_of_row pool.devices) d ≡ is_some (row_of d pool.devices)
+      rows = path_of_rows pool.devices d
+
+      nothing : (a b : Bool) (o : Option ℕ) → o ≡ None → cond a o None ≡ cond b o None
+      nothing true true o is = refl
+      nothing true false o is = is
+      nothing false true o is = sym is
+      nothing false false o is = refl
+
+      by : (o : Option ℕ) → sectors_of (devs old) d ≡ o → cond (names (present_of (devs old) pool.devices) d) (sectors_of (devs old) d) None ≡ cond (names (map path_of_row pool.devices) d) (sectors_of (devs old) d) None
+      by None is = nothing (names (present_of (devs old) pool.devices) d) (names (map path_of_row pool.devices) d) (sectors_of (devs old) d) is
+      by (Some n) is = ap (λ (b : Bool). cond b (sectors_of (devs old) d) None)
+          (same_tests (names (present_of (devs old) pool.devices) d) (names (map path_of_row pool.devices) d) (λ on. (named_present (devs old) pool.devices d on).0) (λ on. present_named (devs old) pool.devices d on (ap is_some is)))
+
+  pub lacks_others : (q : ℕ) → HasOthers devs (table_of later).devices (stopped_at q (table_of later).stopped) (halted_at q parts)
+  lacks_others q = subst (λ (l : List PoolState). HasOthers devs (table_of later).devices (stopped_at q l) (halted_at q parts)) (sym stopped_are)
+      (pairs_all (λ (o : Option PoolState) (x : Option (HaltedView D)). HasOthers devs (table_of later).devices o x) tt q e.pools parts size
+      (λ k pool h at_pool at_h. (ap (λ (x : HaltedView D). x.serial) (part_is k pool h at_pool at_h), others_of k pool h at_pool at_h)))
 
   -- a device of the rest is free
   left : (p : Path) (n : ℕ) → Has (devs rest) p n → is_taken parts p ≡ false

@@ -1,5 +1,5 @@
 -- Pools and their racks, side by side.
-use Rattle.std.proofs.Common.{◌≡◌, ◌⊎◌, inl, inr, ℕ, zero, suc, ◌<◌, Bool, true, false, ◌||◌, cond, eqb, List, [], ◌∷◌, ◌++◌, length, map, Some, None, refl, ◌∙◌, ap, arith}
+use Rattle.std.proofs.Common.{◌≡◌, ◌⊎◌, inl, inr, ℕ, zero, suc, ◌<◌, Bool, true, false, ◌||◌, cond, eqb, List, [], ◌∷◌, ◌++◌, length, map, Option, Some, None, refl, ◌∙◌, ap, arith}
 use Rattle.std.specs.Prelude.{◌==◌, find, not}
 use Rattle.std.specs.Option.{option_map}
 use Rattle.std.specs.List.{slice_get, list_any, AllByRecursion, IsDistinct}
@@ -120,3 +120,20 @@ module _ {D : Type 0} (devs : D → Devices) (moment : D → ℕ) (state_at : D 
         where
           clash : (b : Bool) → b ≡ true → b ≡ false → ⊥
           clash b t u = cc
+
+-- what is so of each pool beside its rack is so of both at each serial
+pub pairs_all : {D : Type 0} (F : Option PoolState → Option (HaltedView D) → Type 0) → F None None → (q : ℕ) (pools : List PoolState) (parts : List (HaltedView D)) → length parts ≡ length pools
+    → ((k : ℕ) (pool : PoolState) (h : HaltedView D) → slice_get pools k ≡ Some pool → slice_get parts k ≡ Some h → (h.serial ≡ pool.serial) × F (Some pool) (Some h)) → F (stopped_at q pools) (halted_at q parts)
+pairs_all F none q [] [] size each = none
+pairs_all F none q [] (h ∷ hs) size each = absurd (omega (arith, size))
+pairs_all F none q (p ∷ ps) [] size each = absurd (omega (arith, size))
+pairs_all F none q (p ∷ ps) (h ∷ hs) size each = by (eqb p.serial q) (eqb h.serial q) refl refl (each 0 p h refl refl) (pairs_all F none q ps hs (omega (arith, size)) (λ k pool x at_pool at_x. each (suc k) pool x at_pool at_x))
+  where
+    clash : (b : Bool) → b ≡ true → b ≡ false → ⊥
+    clash b t u = cc
+
+    by : (a b : Bool) → eqb p.serial q ≡ a → eqb h.serial q ≡ b → (h.serial ≡ p.serial) × F (Some p) (Some h) → F (stopped_at q ps) (halted_at q hs) → F (cond a (Some p) (stopped_at q ps)) (cond b (Some h) (halted_at q hs))
+    by true true e f here rest = here.1
+    by false false e f here rest = rest
+    by true false e f here rest = absurd (clash (eqb h.serial q) (ap (λ (n : ℕ). eqb n q) here.0 ∙ e) f)
+    by false true e f here rest = absurd (clash (eqb h.serial q) f (ap (λ (n : ℕ). eqb n q) here.0 ∙ e))

@@ -9,7 +9,7 @@ use Rattle.st_parting.specs.Found.{AllFinished, IsFoundOn}
 use Rattle.st_pool.specs.Halts.{HaltedView}
 use Rattle.st_pool.specs.View.{now}
 use Rattle.st_dividing.specs.Divided.{AreRowsApart, AreTold, Divides}
-use Rattle.st_board.specs.Holds.{KeepsTable}
+use Rattle.st_board.specs.Holds.{HasOthers, KeepsTable, halted_at, stopped_at}
 
 -- The rows of the pools that were found name no device twice.
 abbrev pub FoundLieApart : Type 0
@@ -21,3 +21,9 @@ module _ {D : Type 0} (devs : D → Devices) (moment : D → ℕ) (state_at : D 
   DividedKeeps old rest = (e later : EngineState) (parts : List (HaltedView D)) → IsFoundOn (devs old) (now moment state_at old) e → AllFinished (devs old) (held (now moment state_at old))
       → later.pools ≡ e.pools → later.devices ≡ e.devices → e.next ≤ later.next → Divides devs moment state_at faults spare old rest parts → AreTold devs moment state_at faults spare old (map row_of e.pools) parts
       → KeepsTable devs moment state_at (table_of later) rest parts
+
+  -- And a pool that lacks a device has each other device of its rows that the engine has.
+  abbrev pub DividedLacks : D → D → Type 0
+  DividedLacks old rest = (e later : EngineState) (parts : List (HaltedView D)) → IsFoundOn (devs old) (now moment state_at old) e → AllFinished (devs old) (held (now moment state_at old))
+      → later.pools ≡ e.pools → later.devices ≡ e.devices → e.next ≤ later.next → Divides devs moment state_at faults spare old rest parts → AreTold devs moment state_at faults spare old (map row_of e.pools) parts
+      → (q : ℕ) → HasOthers devs (table_of later).devices (stopped_at q (table_of later).stopped) (halted_at q parts)

@@ -1,6 +1,6 @@
 //! Laws of what a rack is divided into. They do nothing when they run.
 
-ghost use Rattle.st_boarding.specs.Boarding.{DividedKeeps, FoundLieApart};
+ghost use Rattle.st_boarding.specs.Boarding.{DividedKeeps, DividedLacks, FoundLieApart};
 
 use st_rack::Rack;
 
@@ -11,7 +11,8 @@ pub fn found_lie_apart()
 
 /// The racks that it is divided into keep the table of the state that was found on it.
 pub fn divided_keeps<R: Rack>(old: &R, rest: &R)
-    ensures { DividedKeeps R.devs R.moment R.state_at R.faults R.spare old.now rest.now }
+    ensures keeps { DividedKeeps R.devs R.moment R.state_at R.faults R.spare old.now rest.now }
+    ensures lacks { DividedLacks R.devs R.moment R.state_at R.faults R.spare old.now rest.now }
 {
     let _ = old;
     let _ = rest;

@@ -1,3 +1,3 @@
-mod Alike
+pub mod Alike
 mod Clearings
-mod Emptied
+pub mod Emptied

@@ -15,7 +15,7 @@ use Rattle.st_parting.proofs.Newest.{none_some, some_same}
 use Rattle.st_parting.proofs.Rows.{not_both}
 use Rattle.st_pool.specs.Halts.{HaltedView}
 use Rattle.st_pool.specs.View.{now}
-use Rattle.st_dividing.specs.Divided.{AreRowsApart, Divides, found_as, is_taken, path_of_row, present_of}
+use Rattle.st_dividing.specs.Divided.{AreApart, AreRowsApart, Divides, found_as, is_taken, path_of_row, present_of}
 use Rattle.st_dividing.proofs.Present.{is_here, present_named, present_same}
 
 or_cases : (a b : Bool) → (a || b) ≡ true → (a ≡ true) ⊎ (b ≡ true)
@@ -58,6 +58,19 @@ taken_at (h ∷ hs) p e = elim (or_cases (names h.devs p) (is_taken hs p) e) [
 taken_more : {D : Type 0} (parts : List (HaltedView D)) (h : HaltedView D) (p : Path) → is_taken (parts ++ h ∷ []) p ≡ (is_taken parts p || names h.devs p)
 taken_more parts h p = list_any-append (λ (x : HaltedView _). names x.devs p) parts (h ∷ []) ∙ ap (λ (b : Bool). is_taken parts p || b) (end_false (names h.devs p))
 
+-- one more that has no device of those
+apart_push : {D : Type 0} (parts : List (HaltedView D)) (h : HaltedView D) → AreApart parts → ((p : Path) → names h.devs p ≡ true → is_taken parts p ≡ false) → AreApart (parts ++ h ∷ [])
+apart_push [] h apart none = ((λ p named. refl), tt)
+apart_push (x ∷ xs) h apart none = ((λ p named. taken_more xs h p ∙ both (is_taken xs p) (names h.devs p) (apart.0 p named) (other p named (names h.devs p) refl)), apart_push xs h apart.1 (λ p named. (or_false (names x.devs p) (is_taken xs p) (none p named)).1))
+  where
+    both : (a b : Bool) → a ≡ false → b ≡ false → (a || b) ≡ false
+    both true b e k = absurd cc
+    both false b e k = k
+
+    other : (p : Path) → names x.devs p ≡ true → (b : Bool) → names h.devs p ≡ b → b ≡ false
+    other p named true on = absurd (not_both (names x.devs p) named (or_false (names x.devs p) (is_taken xs p) (none p on)).0)
+    other p named false off = refl
+
 module _ {D : Type 0} (devs : D → Devices) (moment : D → ℕ) (state_at : D → ℕ → State) (faults spare : D → ℕ) where
   -- nothing is divided yet
   pub divides_none : (old : D) → Divides devs moment state_at faults spare old old []
@@ -69,6 +82,7 @@ module _ {D : Type 0} (devs : D → Devices) (moment : D → ℕ) (state_at : D 
     count = omega arith;
     counted = refl;
     none_failed = tt;
+    apart = tt;
   }
 
   -- the rack was left as it was
@@ -82,6 +96,7 @@ module _ {D : Type 0} (devs : D → Devices) (moment : D → ℕ) (state_at : D 
     count = ap (λ (ds : Devices). length ds + sum_by (λ (h : HaltedView D). length (devs h.rack)) parts) same.devices ∙ before.count;
     counted = failed ∙ before.counted;
     none_failed = before.none_failed;
+    apart = before.apart;
   }
 
   module _ (old r1 r2 : D) (rows : List FoundRow) (apart : AreRowsApart (devs old) rows) (parts : List (HaltedView D)) (before : Divides devs moment state_at faults spare old r1 parts)
@@ -176,6 +191,7 @@ module _ {D : Type 0} (devs : D → Devices) (moment : D → ℕ) (state_at : D 
             omega (arith, all, sum, two);
         counted = failed ∙ before.counted;
         none_failed = all_push (λ (x : HaltedView D). faults x.rack ≡ 0) parts h before.none_failed none;
+        apart = apart_push parts h before.apart (λ p named. not_taken p (sym (named_old p) ∙ named));
       }
 
       pub told_more : (k : ℕ) (other : FoundRow) (part : HaltedView D) → slice_get rows k ≡ Some other → slice_get (parts ++ h ∷ []) k ≡ Some part → part ≡ found_as (devs old) other part.rack

@@ -1,5 +1,5 @@
 -- A rack that was divided into racks of pools and the rest.
-use Rattle.std.specs.Prelude.{◌≡◌, ℕ, ◌+◌, ◌<◌, ◌≤◌, Bool, true, false, List, length, map, filter, is_some, Some, None, slice_get, if◌then◌else◌}
+use Rattle.std.specs.Prelude.{◌≡◌, ℕ, ◌+◌, ◌<◌, ◌≤◌, Bool, true, false, List, [], ◌∷◌, length, map, filter, is_some, Some, None, slice_get, if◌then◌else◌}
 use Rattle.std.specs.List.{AllByRecursion, IsDistinct, list_any, sum_by}
 use Rattle.std.specs.Str.{bytes_eq}
 use Rattle.st_units.specs.declared.rows.DevRow.{DevRow}
@@ -21,6 +21,11 @@ present_of devs rows = filter (λ (p : Path). is_some (sectors_of devs p)) (map 
 abbrev pub is_taken : {D : Type 0} → List (HaltedView D) → Path → Bool
 is_taken parts p = list_any (λ h. names h.devs p) parts
 
+-- no two of these pools have a device
+abbrev pub AreApart : {D : Type 0} → List (HaltedView D) → Type 0
+AreApart [] = Unit {0}
+AreApart (h ∷ hs) = ((p : Path) → names h.devs p ≡ true → is_taken hs p ≡ false) × AreApart hs
+
 -- what was found of the pool, on a rack of its devices
 abbrev pub found_as : {D : Type 0} → Devices → FoundRow → D → HaltedView D
 found_as devs row rack = record { serial = row.serial; devs = present_of devs row.devs; rack = rack; flight = None; faults = 0 }
@@ -40,6 +45,7 @@ module _ {D : Type 0} (devs : D → Devices) (moment : D → ℕ) (state_at : D 
     pub count : length (devs rest) + sum_by (λ (h : HaltedView D). length (devs h.rack)) parts ≡ length (devs old)
     pub counted : faults rest ≡ faults old
     pub none_failed : AllByRecursion (λ (h : HaltedView D). faults h.rack ≡ 0) parts
+    pub apart : AreApart parts
 
   -- The pools are those that the rows tell, in order.
   pub record AreTold (old : D) (rows : List FoundRow) (parts : List (HaltedView D)) : Type 0 where

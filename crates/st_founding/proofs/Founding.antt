@@ -67,7 +67,7 @@ pub record IsNew (s : EngineState) (name : Text) (once : List Text) (q : PoolSta
   pub started : is_started q.mode ≡ true
   pub known_is : known q ≡ record { name = name; serial = s.next; new = None; devices = once }
 
-ready_new : (s : EngineState) (name : Text) (once : List Text) → IsNew s name once (new_pool s.next name (data_rows s.devices once))
+pub ready_new : (s : EngineState) (name : Text) (once : List Text) → IsNew s name once (new_pool s.next name (data_rows s.devices once))
 ready_new s name once = record {
   serial = refl;
   uses_these = λ path. off (is_some (row_of path (data_rows s.devices once))) ∙ row_on path DataTier s.devices once;

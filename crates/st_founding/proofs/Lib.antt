@@ -1,3 +1,4 @@
 pub mod Once
 pub mod Planned
 pub mod Founding
+pub mod Slack

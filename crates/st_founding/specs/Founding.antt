@@ -19,7 +19,7 @@ use Rattle.st_image.specs.Kept.{Kept}
 use Rattle.st_pool.specs.Answered.{is_device_fault}
 use Rattle.st_pool.specs.View.{IsKeptOn, PoolView}
 use Rattle.st_board.specs.Ran.{more}
-use Rattle.st_board.specs.View.{BoardView, last}
+use Rattle.st_board.specs.View.{BoardView, last, slack_of}
 
 -- the table with a new pool
 abbrev pub new_table : Text → List Text → TableState → TableState
@@ -36,6 +36,7 @@ pub record MayFound (s : EngineState) (t : TableState) (name : Text) (paths once
 pub record IsLeft {D : Type 0} (faults : D → ℕ) (old b : BoardView D) : Type 0 where
   pub same : b ≡ record old { free = b.free }
   pub counts : faults old.free ≤ last → faults b.free ≡ faults old.free
+  pub slack : slack_of faults old ≤ slack_of faults b
 
 -- The pool is one of the engine's: so the model answers, and the board stands for the state after the call.
 pub record HasFounded {D : Type 0} (devs : D → Devices) (moment : D → ℕ) (state_at : D → ℕ → State) (faults : D → ℕ)

@@ -1,6 +1,7 @@
 pub mod Bare
 pub mod Broken
 pub mod Cuts
+pub mod Few
 pub mod Joined
 pub mod Known
 pub mod Progress

@@ -1,5 +1,6 @@
-ghost use Rattle.std.specs.Prelude.{◌≡◌, ◌<◌, Some, None, Err, IfOk, OnOk, [], ◌∷◌, ◌++◌, length, slice_get, map, All, unwrap_or};
+ghost use Rattle.std.specs.Prelude.{◌≡◌, ◌<◌, ◌≤◌, Some, None, Err, IfOk, OnOk, [], ◌∷◌, ◌++◌, length, slice_get, map, All, unwrap_or};
 ghost use Rattle.std.specs.List.{position};
+ghost use Rattle.st_limits.specs.declared.TheConstants.{MAX_LINES};
 ghost use Rattle.st_lines.specs.Limits.{broken_by_lines};
 ghost use Rattle.st_lines.specs.Lines.{is_feed, lines_of};
 ghost use Rattle.st_lines.specs.declared.read.ReadStop.{ReadStop};
@@ -41,6 +42,7 @@ impl Lines {
     pub(crate) fn cut(alloc: Global, text: Vec<u8>) -> Result<Lines, ReadStop>
         ensures lines { IfOk result (λ lines. lines ≡ lines_of text.items) }
         ensures kept { OnOk result (broken_by_lines 1 (lines_of text.items) ≡ None) }
+        ensures few { IfOk result (λ lines. length lines ≤ MAX_LINES) }
         ensures limit { (limit : Limit) → result ≡ Err (ReadStop.Limit limit) → broken_by_lines 1 (lines_of text.items) ≡ Some limit }
         ensures fault { result ≡ Err ReadStop.Fault → ⊥ }
     {

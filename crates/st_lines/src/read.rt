@@ -2,6 +2,7 @@ ghost use Rattle.std.specs.Prelude.{ℕ, List, ◌≡◌, ◌≤◌, Some, None,
 ghost use Rattle.std.specs.Option.{option_or};
 ghost use Rattle.std.specs.Io.KnownBytes.{Consumes, IsAtEnd};
 ghost use Rattle.st_units.specs.Causes.{Rose};
+ghost use Rattle.st_limits.specs.declared.TheConstants.{MAX_LINES};
 ghost use Rattle.st_lines.specs.declared.read.ReadStop.TheVariants.{OutOfMemory};
 ghost use Rattle.st_lines.specs.Limits.{broken_by_lines, first_broken};
 ghost use Rattle.st_lines.specs.Lines.{lines_of};
@@ -54,6 +55,7 @@ impl From<NoMemory> for ReadStop {
 pub fn read_lines<S: Source>(alloc: Global, source: &mut S) -> Result<Lines, ReadStop>
     ensures lines { IfOk result (λ lines. IfSome (S.left source.old) (λ input. lines ≡ lines_of input)) }
     ensures kept { OnOk result (IfSome (S.left source.old) (λ input. first_broken input ≡ None)) }
+    ensures few { IfOk result (λ lines. length lines ≤ MAX_LINES) }
     ensures end { OnOk result (IsAtEnd (S.left source.new)) }
     ensures limit { (limit : Limit) → result ≡ Err (ReadStop.Limit limit) → IfSome (S.left source.old) (λ input. first_broken input ≡ Some limit) }
     ensures fault { result ≡ Err ReadStop.Fault → Rose (S.faults source.old) (S.faults source.new) }

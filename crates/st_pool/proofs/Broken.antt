@@ -27,7 +27,7 @@ use Rattle.st_making.proofs.Made.{first_blocks, no_cache}
 use Rattle.st_pool.specs.Makes.{MayTake, engine_before}
 use Rattle.st_pool.specs.View.{pool_with}
 use Rattle.st_pool.specs.inner.Makings.{broken_books, broken_info, new_rows}
-use Rattle.st_pool.proofs.Creating.{made_plain}
+use Rattle.st_pool.proofs.Creating.{made_plain, may_make}
 use Rattle.st_pool.proofs.NewRows.{are_rows}
 
 -- what the first books stand for
@@ -65,7 +65,7 @@ module _ (serial : ℕ) (name : Text) (list : List Path) (devs : Devices) (start
   survives rack same found (inr is) =
       inr (is ∙ sym (
       ap (λ (ds : Devices). option_map recorded (the_pool (unwrap_or (outcome (engine_before serial ds) (CreatePool name list) Plain) (refused OutOfMemory, engine_before serial ds)).1.pools)) same
-      ∙ ap (λ (o : Outcome). option_map recorded (the_pool (unwrap_or o (refused OutOfMemory, engine_before serial devs)).1.pools)) (made_plain serial name list devs start may until)))
+      ∙ ap (λ (o : Outcome). option_map recorded (the_pool (unwrap_or o (refused OutOfMemory, engine_before serial devs)).1.pools)) (made_plain serial name list devs (may_make serial list devs start may) until)))
 
   -- a crash leaves no pool or the new one: so it is kept, with the call in flight
   pub making_kept : (rack : Devices) → rack ≡ devs → (s : State) → Survived serial (rows_of rec) (IsMade (made rec)) s → Kept (broken_pool serial name list) rack s

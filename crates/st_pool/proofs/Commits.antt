@@ -45,7 +45,7 @@ module _ {D : Type 0} (devs : D → Devices) (moment : D → ℕ) (state_at : D 
     filesystems = inv.filesystems;
     mappings = inv.mappings;
     flies = inv.flies;
-    is_on = record { on = inv.is_on.on; own = inv.is_on.own; info = inv.is_on.info; spare_info = subst (λ (o : Option PoolInfo). IfSome o (λ i. i ≡ pool_info (pool_with b flight (held (now moment state_at seen))))) (sym none) tt };
+    is_on = record { on = inv.is_on.on; once = inv.is_on.once; own = inv.is_on.own; info = inv.is_on.info; spare_info = subst (λ (o : Option PoolInfo). IfSome o (λ i. i ≡ pool_info (pool_with b flight (held (now moment state_at seen))))) (sym none) tt };
     stands = inv.stands;
     count_is = inv.count_is;
   }

@@ -95,6 +95,7 @@ module _ {D : Type 0} (devs : D → Devices) (moment : D → ℕ) (state_at : D 
         flies = flies;
         is_on = record {
           on = ap paths rows_down ∙ rows_path;
+          once = inv.is_on.once;
           own = own_down;
           info = own_is ∙ info_is;
           spare_info = other_is ∙ info_is;

@@ -2,6 +2,7 @@
 use Rattle.std.proofs.Common.{◌≡◌, ◌≢◌, ℕ, zero, suc, ◌<◌, ◌≤◌, ◌^◌, ◌==◌, Bool, true, false, not, ◌||◌, cond, bytes_eq, nat_le, nat_lt, is_none, is_some, option_map, unwrap_or, List, [], ◌∷◌, length, map, filter, Option, Some, None, refl, sym, ◌∙◌, ap, subst, arith}
 use Rattle.std.specs.List.{AllByRecursion, find}
 use Rattle.std.proofs.lemmas.Bool.Decides.{nat_tests}
+use Rattle.st_limits.specs.Sums.{IsDeviceSize}
 use Rattle.st_limits.specs.declared.TheConstants.{MAX_POOLS, MAX_POOL_DEVICES, MAX_POOL_SERIAL, MIN_DEVICE_SECTORS}
 use Rattle.st_units.specs.declared.cause.Cause.TheVariants.{DeviceFault, EmptyDevices, TooManyDevices, TooManyPools, NoSuchDevice, DeviceTooSmall, OutOfMemory}
 use Rattle.st_units.specs.declared.rows.DevRow.{DevRow}
@@ -43,7 +44,7 @@ none_mapped : (o : Option DevRow) → is_none o ≡ is_none (option_map (λ (row
 none_mapped None = refl
 none_mapped (Some row) = refl
 
-same_rows : (devs : Devices) (list : List Path) → data_rows (map survivors.row_of devs) list ≡ new_rows devs list
+pub same_rows : (devs : Devices) (list : List Path) → data_rows (map survivors.row_of devs) list ≡ new_rows devs list
 same_rows devs [] = refl
 same_rows devs (d ∷ ds) = (λ i. record { path = d; tier = DataTier; sectors = unwrap_or (row_found devs d i) 0 } ∷ same_rows devs ds i)
 
@@ -67,7 +68,17 @@ no_pools = grind (arith, nat_tests)
 abbrev pub created : ℕ → List Path → Reply
 created serial list = accepted (Created true (Some (serial, list)))
 
-module _ (serial : ℕ) (name : Text) (list : List Path) (devs : Devices) (s : State) (may : MayTake serial list devs s) (until : serial ≤ 2 ^ 48) where
+-- Devices of a rack that a pool may be made of: a few, each once, of a fit size.
+pub record MayMake (list : List Path) (devs : Devices) : Type 0 where
+  pub some : 1 ≤ length list
+  pub few : length list ≤ MAX_POOL_DEVICES
+  pub own : AreDistinct list
+  pub each : (d : Path) → IsOf list d → (n : ℕ) × Has devs d n × IsDeviceSize n
+
+pub may_make : (serial : ℕ) (list : List Path) (devs : Devices) (s : State) → MayTake serial list devs s → MayMake list devs
+may_make serial list devs s may = record { some = may.some; few = may.few; own = may.own; each = λ d of. (let one = may.each d of in (one.0, one.1, one.2)) }
+
+module _ (serial : ℕ) (name : Text) (list : List Path) (devs : Devices) (may : MayMake list devs) (until : serial ≤ 2 ^ 48) where
   abbrev before : EngineState
   before = engine_before serial devs
 
@@ -86,7 +97,7 @@ module _ (serial : ℕ) (name : Text) (list : List Path) (devs : Devices) (s : S
       let one = may.each d of in ap (λ (o : Option ℕ). nat_lt (unwrap_or o 0) MIN_DEVICE_SECTORS) (row_found devs d ∙ one.1) ∙ not_more MIN_DEVICE_SECTORS one.0 one.2.0)))
 
   -- nothing is refused
-  no_answer : create_answer before name list ≡ None
+  pub no_answer : create_answer before name list ≡ None
   unfolding create_answer
   no_answer = (λ i. first_answer (refused_where (some_not_empty (length list) may.some i) EmptyDevices
       ∷ refused_by (option_map NoSuchDevice (none_absent i))

@@ -13,7 +13,7 @@ use Rattle.st_model.specs.declared.state.PoolState.{PoolState}
 use Rattle.st_model.specs.Answer.{accepted}
 use Rattle.st_model.specs.Checks.{halted}
 use Rattle.st_model.specs.Look.{is_started}
-use Rattle.st_model.specs.Step.{step}
+use Rattle.st_model.specs.Step.{can_start, step}
 use Rattle.st_model.specs.steps.StopPool.{stop_found, stop_pool}
 use Rattle.st_rack.specs.Story.{Story, Meant}
 use Rattle.st_rack.specs.Device.{Path, DevState, State, Image, Cut, held}
@@ -52,9 +52,14 @@ started_with : (b : Books) (flight : Option Call) (m : Image) → is_started (po
 started_with b None m = refl
 started_with b (Some call) m = refl
 
+-- it can be started again
+pub can_again : (b : Books) (flight : Option Call) (m : Image) → can_start (halted (pool_with b flight m)).mode ≡ true
+can_again b None m = refl
+can_again b (Some call) m = refl
+
 -- the call in flight with the books
 abbrev pub flight_with : Books → Option Call → Option Flight
-flight_with b flight = option_map (λ (call : Call). record { call = call; books = b }) flight
+flight_with b flight = option_map (λ (call : Call). record { call = Some call; books = b }) flight
 
 pub stop_is : (b : Books) (flight : Option Call) (m : Image) (devs : Devices)
     → step (engine_of (pool_with b flight m) devs) (StopPool b.rec.name) Plain ≡ (accepted (Changed true (Some (Pool b.rec.serial))), record (engine_of (pool_with b flight m) devs) { pools = halted (pool_with b flight m) ∷ [] })
@@ -88,6 +93,7 @@ halts devs moment state_at faults b (Some call) list shown spare rack seen count
   own = record { there = inv.is_on.own.there; alone = inv.is_on.own.alone };
   is_as = record {
     serial = inv.serial;
+    once = inv.is_on.once;
     filesystems = inv.filesystems;
     mappings = inv.mappings;
     call = inv.flies;
@@ -97,7 +103,7 @@ halts devs moment state_at faults b (Some call) list shown spare rack seen count
 }
 
 -- the devices of a list that a rack has
-there_paths : (rack ds : Devices) → AreThere rack ds → (k : ℕ) (q : Path) → slice_get (paths ds) k ≡ Some q → (n : ℕ) × Has rack q n
+pub there_paths : (rack ds : Devices) → AreThere rack ds → (k : ℕ) (q : Path) → slice_get (paths ds) k ≡ Some q → (n : ℕ) × Has rack q n
 there_paths rack [] there k q is = absurd (cc)
 there_paths rack (d ∷ ds) there zero q is = (d.1, subst (λ (p : Path). Has rack p d.1) (same d.0 q is) (there 0 d refl))
   where

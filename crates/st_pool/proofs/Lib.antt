@@ -17,3 +17,8 @@ pub mod NewRows
 pub mod Creating
 pub mod Broken
 pub mod Makings
+pub mod Idle
+pub mod Sooner
+pub mod Woken
+pub mod Waked
+pub mod Emptied

@@ -31,7 +31,7 @@ use Rattle.st_pool.specs.Makes.{Makes, MayTake, engine_before}
 use Rattle.st_pool.specs.View.{IsOwn, engine_of, now, pool_with, view_of}
 use Rattle.st_pool.specs.inner.Makings.{broken_books, broken_info, new_rows}
 use Rattle.st_pool.proofs.Broken.{broken_shown, broken_uses, broken_with, made_with, making_kept}
-use Rattle.st_pool.proofs.Creating.{created, made_broken, made_plain}
+use Rattle.st_pool.proofs.Creating.{created, made_broken, made_plain, may_make}
 use Rattle.st_pool.proofs.NewRows.{alone_new, paths_new, there_new}
 use Rattle.st_pool.proofs.Standing.{rows_are, up_kept}
 
@@ -95,6 +95,7 @@ module _ {D : Type 0} (devs : D → Devices) (moment : D → ℕ) (state_at : D 
       flies = tt;
       is_on = record {
         on = uses (pool_with books None (held (at r1))) up_rows;
+        once = may.own;
         own = owns (pool_with books None (held (at r1))) up_rows;
         info = own_is ∙ ap pool_info (sym stands_for);
         spare_info = other_is ∙ ap pool_info (sym stands_for);
@@ -105,8 +106,8 @@ module _ {D : Type 0} (devs : D → Devices) (moment : D → ℕ) (state_at : D 
 
     pub makes_ready : During → Makes devs moment state_at faults serial name list Plain (created serial list) rack (view_of moment state_at books None true r1 r1 0)
     makes_ready during = record {
-      licensed = ap (λ (o : Outcome). is_some o) (made_plain serial name list (devs rack) (at rack) may until);
-      answers = ap (λ (o : Outcome). unwrap_or o (refused OutOfMemory, engine_before serial (devs rack))) (made_plain serial name list (devs rack) (at rack) may until)
+      licensed = ap (λ (o : Outcome). is_some o) (made_plain serial name list (devs rack) (may_make serial list (devs rack) (at rack) may) until);
+      answers = ap (λ (o : Outcome). unwrap_or o (refused OutOfMemory, engine_before serial (devs rack))) (made_plain serial name list (devs rack) (may_make serial list (devs rack) (at rack) may) until)
           ∙ ap (λ (q : PoolState). (created serial list, engine_of q (devs rack))) (sym stands_for);
       cause = λ e. absurd (cc);
       counts = refl;
@@ -134,6 +135,7 @@ module _ {D : Type 0} (devs : D → Devices) (moment : D → ℕ) (state_at : D 
       flies = (refl, refl, refl, refl);
       is_on = record {
         on = uses (broken_pool serial name list) down_rows;
+        once = may.own;
         own = owns (broken_pool serial name list) down_rows;
         info = own_is ∙ sym (broken_shown serial name list);
         spare_info = other_is ∙ sym (broken_shown serial name list);
@@ -144,8 +146,8 @@ module _ {D : Type 0} (devs : D → Devices) (moment : D → ℕ) (state_at : D 
 
     pub makes_broken : Makes devs moment state_at faults serial name list FaultWrite (refused DeviceFault) rack (view_of moment state_at (broken_books serial name) (Some (CreatePool name list)) true r1 r1 1)
     makes_broken = record {
-      licensed = ap (λ (o : Outcome). is_some o) (made_broken serial name list (devs rack) (at rack) may until);
-      answers = ap (λ (o : Outcome). unwrap_or o (refused OutOfMemory, engine_before serial (devs rack))) (made_broken serial name list (devs rack) (at rack) may until);
+      licensed = ap (λ (o : Outcome). is_some o) (made_broken serial name list (devs rack) (may_make serial list (devs rack) (at rack) may) until);
+      answers = ap (λ (o : Outcome). unwrap_or o (refused OutOfMemory, engine_before serial (devs rack))) (made_broken serial name list (devs rack) (may_make serial list (devs rack) (at rack) may) until);
       cause = λ e. rose;
       counts = refl;
       most = one_le (faults rack) (faults r1) rose;

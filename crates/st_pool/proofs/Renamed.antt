@@ -116,6 +116,7 @@ module _ {D : Type 0} (devs : D → Devices) (moment : D → ℕ) (state_at : D 
       flies = tt;
       is_on = record {
         on = ap paths rows_after ∙ rows_path devs moment state_at faults b list shown spare rack seen count inv;
+        once = inv.is_on.once;
         own = own_after;
         info = own_is ∙ info_is;
         spare_info = other_is ∙ info_is;

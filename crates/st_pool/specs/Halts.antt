@@ -1,22 +1,23 @@
 -- A pool that isn't started, on its devices.
 use Rattle.std.specs.Prelude.{◌≡◌, ℕ, false, List, [], Option, Some, None}
+use Rattle.st_model.specs.declared.call.Call.{Call}
 use Rattle.st_model.specs.declared.state.PoolState.{PoolState}
 use Rattle.st_model.specs.Checks.{halted}
 use Rattle.st_model.specs.Look.{flight_of, is_started}
 use Rattle.st_rack.specs.Device.{Path, State, Image, held}
 use Rattle.st_rack.specs.Calls.{Devices}
 use Rattle.st_deltalog.specs.Bearing.{IsSettled}
-use Rattle.st_commit.specs.Ready.{IsOf}
+use Rattle.st_commit.specs.Ready.{AreDistinct, IsOf}
 use Rattle.st_image.specs.Bears.{paths}
 use Rattle.st_image.specs.Kept.{Kept, in_use}
 use Rattle.st_image.specs.Rack.{IsSerial}
 use Rattle.st_image.specs.Stands.{StandsFor}
 use Rattle.st_pool.specs.declared.flight.Flight.{Flight}
-use Rattle.st_pool.specs.Flights.{IsPoolCall}
+use Rattle.st_pool.specs.Flights.{Flies}
 use Rattle.st_pool.specs.View.{IsOwn, now, pool_with}
 
--- the serial of the pool, its devices in use, their rack, the call in flight with the pool's books, and how many operations of the pool
--- met a fault
+-- the serial of the pool, its devices in use, their rack, the pool's books where they are known, with the call in flight, and how many
+-- operations of the pool met a fault
 pub record HaltedView (D : Type 0) : Type 0 where
   pub serial : ℕ
   pub devs : List Path
@@ -30,13 +31,19 @@ pub record IsQuiet (pool : PoolState) (devs : Devices) (list : List Path) (s : S
   pub settled : (d : Path) → IsOf list d → IsSettled (s d)
   pub stands : StandsFor pool.serial (in_use pool devs) (held s) (Some pool)
 
--- A call is in flight, and the pool is that of the books before it.
+-- The books are known: the pool is that of them, with the call in flight if there is one. Each device stands once in the list.
 pub record IsFlying (pool : PoolState) (list : List Path) (f : Flight) : Type 0 where
   pub serial : IsSerial f.books.rec.serial
+  pub once : AreDistinct list
   pub filesystems : f.books.flex.filesystems ≡ []
   pub mappings : f.books.flex.mappings ≡ []
-  pub call : IsPoolCall f.books list f.call
-  pub was : (m : Image) → pool ≡ halted (pool_with f.books (Some f.call) m)
+  pub call : Flies f.books list f.call
+  pub was : (m : Image) → pool ≡ halted (pool_with f.books f.call m)
+
+-- the call in flight, where the books are known
+abbrev pub flown : Option Flight → Option Call
+flown None = None
+flown (Some f) = f.call
 
 abbrev pub IsAs : PoolState → Devices → List Path → State → Option Flight → Type 0
 IsAs pool devs list s None = IsQuiet pool devs list s

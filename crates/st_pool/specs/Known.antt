@@ -7,7 +7,7 @@ use Rattle.st_model.specs.Shown.{pool_info}
 use Rattle.st_rack.specs.Device.{Path, State, held}
 use Rattle.st_rack.specs.Calls.{Devices}
 use Rattle.st_deltalog.specs.Bearing.{IsSettled}
-use Rattle.st_commit.specs.Ready.{IsOf}
+use Rattle.st_commit.specs.Ready.{AreDistinct, IsOf}
 use Rattle.st_image.specs.Bears.{paths}
 use Rattle.st_image.specs.Kept.{in_use, Kept}
 use Rattle.st_image.specs.Stands.{state_of}
@@ -29,9 +29,11 @@ abbrev pub Stands : Books → Option Call → PoolState → Devices → State �
 Stands b None pool devs s seen = IsUp b s seen
 Stands b (Some call) pool devs s seen = Kept pool devs s
 
--- The pool is on these devices, which the rack has and no others; `shown` is what an info shows of it, and an info to give shows the same.
+-- The pool is on these devices, each once, which the rack has and no others; `shown` is what an info shows of it, and an info to give shows
+-- the same.
 pub record IsOn (pool : PoolState) (devs : Devices) (list : List Path) (shown : PoolInfo) (spare : Option PoolInfo) : Type 0 where
   pub on : paths (in_use pool devs) ≡ list
+  pub once : AreDistinct list
   pub own : IsOwn pool devs
   pub info : shown ≡ pool_info pool
   pub spare_info : IfSome spare (λ i. i ≡ pool_info pool)

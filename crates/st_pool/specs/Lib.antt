@@ -6,4 +6,5 @@ pub mod Runs
 pub mod Makes
 pub mod Ends
 pub mod Halts
+pub mod Starts
 pub mod inner

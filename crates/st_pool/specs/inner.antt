@@ -2,3 +2,4 @@ pub mod Plans
 pub mod Renames
 pub mod Endings
 pub mod Makings
+pub mod Wakings

@@ -96,7 +96,8 @@ fn planned(
     Ok(making::new_pool(alloc, serial, name.copy()?, rows))
 }
 
-fn infos_of(alloc: Global, pool: &PoolState) -> Result<Twins, NoMemory>
+/// Infos of this pool.
+pub fn infos_of(alloc: Global, pool: &PoolState) -> Result<Twins, NoMemory>
     requires { AreSmall pool.now.devices }
     ensures { IfOk result (AreTwins (pool_info pool.now)) }
 {

@@ -1,4 +1,4 @@
-ghost use Rattle.std.specs.Prelude.{◌≡◌, ◌≤◌, ◌∷◌, [], None, Some, true, false, option_map};
+ghost use Rattle.std.specs.Prelude.{◌≡◌, ◌≤◌, ◌∷◌, [], None, Some, true, false, option_copied, option_map};
 ghost use Rattle.st_model.specs.declared.call.Call.TheVariants.{StopPool};
 ghost use Rattle.st_model.specs.declared.entry.Env.TheVariants.{Plain};
 ghost use Rattle.st_model.specs.declared.reply.Given.TheVariants.{Changed};
@@ -7,11 +7,11 @@ ghost use Rattle.st_model.specs.declared.state.PoolState.{PoolState};
 ghost use Rattle.st_model.specs.Answer.{accepted};
 ghost use Rattle.st_model.specs.Checks.{halted};
 ghost use Rattle.st_model.specs.Look.{is_started};
-ghost use Rattle.st_model.specs.Step.{step};
+ghost use Rattle.st_model.specs.Step.{can_start, step};
 ghost use Rattle.st_rack.specs.Moments.{AllCut, Goes};
 ghost use Rattle.st_image.specs.Bears.{paths};
 ghost use Rattle.st_image.specs.Kept.{Kept, in_use};
-ghost use Rattle.st_pool.specs.Halts.{Halts, IsQuiet};
+ghost use Rattle.st_pool.specs.Halts.{Halts, IsQuiet, flown};
 ghost use Rattle.st_pool.specs.View.{IsOwn, engine_of};
 
 use crate::flight::Flight;
@@ -28,7 +28,7 @@ pub struct Halted<R: Rack> {
     /// The devices in use.
     pub(crate) devs: DevList,
     pub(crate) rack: R,
-    /// The call that was in flight when the pool was stopped.
+    /// Its books where they are known, with the call in flight.
     pub(crate) flight: Option<Flight>,
     pub(crate) faults: u64,
 }
@@ -46,10 +46,13 @@ impl<R: Rack> Model for Halted<R> {
 
 /// The call with the books, where there is a call.
 fn with_books(flight: Option<Call>, books: Books) -> Option<Flight>
-    ensures { result ≡ option_map (λ call. record { call = call; books = books }) flight }
+    ensures { result ≡ option_map (λ call. record { call = Some call; books = books }) flight }
 {
     match flight {
-        Some(call) => Some(Flight { call, books }),
+        Some(call) => Some(Flight {
+            call: Some(call),
+            books,
+        }),
         None => None,
     }
 }
@@ -59,6 +62,7 @@ impl<R: Rack> Pool<R> {
     #[tactic(none)]
     pub fn stop(self) -> Halted<R>
         ensures halts { Halts R.devs R.moment R.state_at (halted self.pool) result }
+        ensures starts { can_start (halted self.pool).mode ≡ true }
         ensures replied { (step (engine_of self.pool (R.devs self.rack)) (StopPool self.pool.name) Plain).0 ≡ accepted (Changed true (Some (identities.Pool self.pool.serial))) }
         ensures becomes { (step (engine_of self.pool (R.devs self.rack)) (StopPool self.pool.name) Plain).1.pools ≡ halted self.pool ∷ [] }
         ensures rack { result.rack ≡ self.rack }
@@ -122,6 +126,40 @@ impl<R: Rack> Halted<R> {
         ensures most { result ≤ R.faults self.now.rack }
     {
         self.faults
+    }
+
+    /// Its serial.
+    #[tactic(none)]
+    pub fn serial(&self) -> PoolSerial
+        ensures { result ≡ self.now.serial }
+    {
+        self.serial
+    }
+
+    /// Its devices in use, in the order in which it took them.
+    #[tactic(none)]
+    pub fn devices(&self) -> &DevList
+        ensures { result.now ≡ self.now.devs }
+    {
+        &self.devs
+    }
+
+    /// The call that is in flight, where there is one.
+    pub fn flight(&self) -> Option<&Call>
+        ensures { option_copied result ≡ flown self.now.flight }
+    {
+        match &self.flight {
+            Some(flight) => flight.call.as_ref(),
+            None => None,
+        }
+    }
+
+    /// The rack of its devices, to look at.
+    #[tactic(none)]
+    pub fn rack(&self) -> &R
+        ensures { result.now ≡ self.now.rack }
+    {
+        &self.rack
     }
 
     /// The rack of its devices.

@@ -7,11 +7,10 @@ ghost use Rattle.st_pool.specs.Makes.{Makes, MayTake};
 
 use crate::beginning::{Begun, Broken, Making, ready};
 use crate::made::Made;
-use crate::pool::Pool;
+use crate::pool::{Pool, standing};
 use st_rack::Rack;
 use st_units::{DevList, Name, PoolSerial};
 use std::alloc::Global;
-use std::snapshot::Snapshot;
 
 impl<R: Rack> Pool<R> {
     /// Makes a pool on all devices of a rack, which are free for it. That no pool of the engine has the name is the caller's to know.
@@ -33,36 +32,10 @@ impl<R: Rack> Pool<R> {
         } = begun;
         let mut rack = rack;
         match st_making::make(&mut rack, &devs, &books, first) {
-            Ok(()) => {
-                let seen = Snapshot::of(&rack);
-                Made::Ready(Pool {
-                    rack,
-                    devs,
-                    books,
-                    flight: None,
-                    shown: infos.own,
-                    spare: Some(infos.spare),
-                    faults: 0,
-                    seen,
-                })
-            }
+            Ok(()) => Made::Ready(standing(rack, devs, books, None, infos, 0)),
             Err(_) => {
-                let seen = Snapshot::of(&rack);
-                let Broken {
-                    books,
-                    call,
-                    infos: down,
-                } = broken;
-                Made::Broken(Pool {
-                    rack,
-                    devs,
-                    books,
-                    flight: Some(call),
-                    shown: down.own,
-                    spare: Some(down.spare),
-                    faults: 1,
-                    seen,
-                })
+                let Broken { books, call, infos } = broken;
+                Made::Broken(standing(rack, devs, books, Some(call), infos, 1))
             }
         }
     }

@@ -1,7 +1,11 @@
-ghost use Rattle.std.specs.Prelude.{◌≡◌, ◌≤◌, false, true, IfNone, IfSome};
+ghost use Rattle.std.specs.Prelude.{◌≡◌, ◌≤◌, false, true, IfNone, IfSome, Some, option_copied};
 ghost use Rattle.st_model.specs.Shown.{pool_info};
-ghost use Rattle.st_image.specs.Kept.{Kept};
+ghost use Rattle.st_image.specs.Bears.{paths};
+ghost use Rattle.st_image.specs.Kept.{Kept, in_use};
+ghost use Rattle.st_pool.specs.Known.{IsPool};
+ghost use Rattle.st_pool.specs.View.{mode_with, view_of};
 
+use crate::planning::Twins;
 use st_books::Books;
 use st_model::{Call, PoolInfo};
 use st_rack::Rack;
@@ -39,6 +43,32 @@ impl<R: Rack> Model for Pool<R> {
     ghost invariant = { λ p. IsPool R.devs R.moment R.state_at R.faults p.books p.flight p.devs p.shown p.spare p.rack p.seen.value p.faults };
 }
 
+/// A pool with these books, and a call in flight if there is one, as it is now.
+#[tactic(none)]
+pub(crate) fn standing<R: Rack>(
+    rack: R,
+    devs: DevList,
+    books: Books,
+    flight: Option<Call>,
+    infos: Twins,
+    faults: u64,
+) -> Pool<R>
+    requires { IsPool R.devs R.moment R.state_at R.faults books flight devs infos.own (Some infos.spare) rack rack faults }
+    ensures { result ≡ view_of R.moment R.state_at books flight true rack rack faults }
+{
+    let seen = Snapshot::of(&rack);
+    Pool {
+        rack,
+        devs,
+        books,
+        flight,
+        shown: infos.own,
+        spare: Some(infos.spare),
+        faults,
+        seen,
+    }
+}
+
 impl<R: Rack> Pool<R> {
     /// An info of the present state.
     #[tactic(none)]
@@ -57,6 +87,22 @@ impl<R: Rack> Pool<R> {
         ensures spent { self.new ≡ record self.old { spare = false } }
     {
         self.spare.take()
+    }
+
+    /// The call whose write failed, where it is down.
+    #[tactic(none)]
+    pub fn flight(&self) -> Option<&Call>
+        ensures { self.now.pool.mode ≡ mode_with (option_copied result) }
+    {
+        self.flight.as_ref()
+    }
+
+    /// The devices in use, in the order in which the pool took them.
+    #[tactic(none)]
+    pub fn devices(&self) -> &DevList
+        ensures { result.now ≡ paths (in_use self.now.pool (R.devs self.now.rack)) }
+    {
+        &self.devs
     }
 
     /// How many operations on the pool were answered with a fault of a device, up to 2^64 - 1.

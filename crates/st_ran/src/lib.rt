@@ -5,7 +5,9 @@
 mod answers;
 mod laws;
 mod place;
+mod ran;
 
 pub use answers::{no_memory, plainly};
 pub use laws::{none_has_run, one_has_run};
 pub use place::place_of;
+pub use ran::Ran;

@@ -7,13 +7,15 @@ use Rattle.st_wants.specs.declared.row.LockRow.{LockRow}
 use Rattle.st_wants.specs.declared.want.Want.{Want}
 use Rattle.st_model.specs.declared.call.Call.{Call}
 use Rattle.st_model.specs.declared.entry.Entry.{Entry}
+use Rattle.st_model.specs.declared.info.PoolInfo.{PoolInfo}
+use Rattle.st_model.specs.declared.info.TableInfo.{TableInfo}
 use Rattle.st_model.specs.declared.state.EngineState.{EngineState}
 use Rattle.st_model.specs.declared.state.PoolState.{PoolState}
 use Rattle.st_model.specs.declared.state.TableState.{TableState}
 use Rattle.st_model.specs.Step.{step}
 use Rattle.st_model.specs.Wanted.{want_of}
 use Rattle.st_history.specs.Failures.{failures_of}
-use Rattle.st_book.specs.Stands.{PartStands, ComesBack}
+use Rattle.st_book.specs.Stands.{PartStands, PartShows, ComesBack}
 use Rattle.st_book.specs.View.{TableView}
 use Rattle.st_book.specs.Noted.{grant_with, IsNoted}
 use Rattle.st_lock.specs.Held.{Rose}
@@ -56,6 +58,13 @@ holds_rose v t faults after more call cells table h rises = record {
 }
 
 -- ---- a grant
+
+-- what a part shows, by what its call wants
+pub shown_of : (old : LockSeat) (t : ℕ) (call : Call) (s : EngineState) (infos : List PoolInfo) (info : Option TableInfo) → Awaits old t call → IfSome (own_row t old) (λ r. PartShows r.want s infos info) → PartShows (want_of call) s infos info
+shown_of old t call s infos info waits h =
+    let told = some_and (λ (r : LockRow). (r.live ≡ false) × (r.want ≡ want_of call)) (own_row t old) waits in
+    let shows = rw told.1 at h in
+    subst (λ w. PartShows w s infos info) told.2.1 shows
 
 pub holds_of : (old new : LockSeat) (t u faults cut : ℕ) (call : Call) (cells : List PoolState) (table : Option TableView) → Awaits old t call → IsLater old new → new.own ≡ old.own ++ grant_with old.number u cut ∷ []
     → IfSome (own_row t old) (λ r. own_row u new ≡ Some (record r { live = true })) → IfSome (own_row t old) (λ r. PartStands r.want (state_at new) cells table) → IfSome table (λ (w : TableView). new.opening.base ≤ w.slack)

@@ -1,5 +1,5 @@
 -- a call under a ticket: what its caller knows between its arrival and its release
-use Rattle.std.specs.Prelude.{ℕ, ◌≡◌, ◌<◌, ◌≤◌, ◌^◌, List, [], ◌∷◌, ◌++◌, length, true, false, Option, IfSome, IsSomeAnd}
+use Rattle.std.specs.Prelude.{ℕ, ◌≡◌, ◌<◌, ◌≤◌, ◌^◌, ◌⊎◌, List, [], ◌∷◌, ◌++◌, length, true, false, Option, IfSome, IsSomeAnd}
 use Rattle.st_units.specs.Roomy.{Roomy}
 use Rattle.st_model.specs.declared.call.Call.{Call}
 use Rattle.st_model.specs.declared.entry.Entry.{Entry}
@@ -15,11 +15,15 @@ use Rattle.st_book.specs.declared.noted.Noted.{Noted}
 use Rattle.st_book.specs.Noted.{grant_with, IsNoted}
 use Rattle.st_book.specs.Stands.{PartStands}
 use Rattle.st_book.specs.View.{TableView}
-use Rattle.st_lock.specs.Seats.{LockSeat, IsHeard, own_row, plain, state_at}
+use Rattle.st_lock.specs.Seats.{LockSeat, IsHeard, IsLater, own_row, plain, state_at}
 
 -- the ticket is the seat's, and waits with what the call wants
 abbrev pub Awaits : LockSeat → ℕ → Call → Type 0
 Awaits v t call = IsSomeAnd (own_row t v) (λ r. (r.live ≡ false) × (r.want ≡ want_of call))
+
+-- memory was refused before the call arrived: the seat has no new event, and may have seen more of the log
+abbrev pub HasStayed : LockSeat → LockSeat → Type 0
+HasStayed old new = (new ≡ old) ⊎ (IsLater old new × (new.own ≡ old.own))
 
 -- The ticket is the seat's, and is granted with what the call wants; these cells and this table are its part, as it came, and so many
 -- faults are noted of them.

@@ -7,10 +7,10 @@ ghost use Rattle.st_model.specs.Sound.{IsSound};
 ghost use Rattle.st_model.specs.Wanted.{want_of};
 ghost use Rattle.st_history.specs.Failures.{failures_of};
 ghost use Rattle.st_book.specs.Noted.{grant_with};
-ghost use Rattle.st_book.specs.Stands.{ComesBack};
+ghost use Rattle.st_book.specs.Stands.{ComesBack, PartShows};
 ghost use Rattle.st_lock.specs.Held.{Rose, faults_in};
 ghost use Rattle.st_lock.specs.Seats.{IsHeard, IsLater, own_row, plain, state_at};
-ghost use Rattle.st_serving.specs.Serving.{Awaits, Holds, HasReleased};
+ghost use Rattle.st_serving.specs.Serving.{Awaits, HasReleased, HasStayed, Holds};
 
 use st_book::Event;
 use st_lock::{AllOrSome, Guard, Seat, Ticket};
@@ -69,7 +69,7 @@ pub fn arrive<C: Cell, T: Board>(
     ensures waits { IfOk result (λ w. Awaits seat.new w.ticket.number w.job.call) }
     ensures job { IfOk result (λ w. (w.job.call ≡ job.call) × (w.job.from ≡ job.from)) }
     ensures own { IfOk result (λ w. seat.new.own ≡ seat.old.own ++ plain (Event.Arrive seat.old.number w.ticket.number (want_of job.call)) ∷ []) }
-    ensures same { OnErr result (seat.new.own ≡ seat.old.own) }
+    ensures stayed { OnErr result (HasStayed seat.old seat.new) }
 {
     let want = want_of(&job.call)?;
     match lock.arrive(rt, alloc, seat, want) {
@@ -90,6 +90,7 @@ pub fn wait<C: Cell, T: Board>(
     ensures later { IsLater seat.old seat.new }
     ensures holds { Holds seat.new result.guard.ticket result.job.call (map C.state result.guard.part.cells.items)
         (option_map (λ t. record { state = T.stands t; slack = T.slack t }) result.guard.part.table) (faults_in T.fault_count C.fault_count result.guard.part.table result.guard.part.cells.items) }
+    ensures shown { result.guard.part.short ≡ false → PartShows (want_of result.job.call) (state_at seat.new) (map C.shows result.guard.part.infos.items) (option_map T.shows result.guard.part.table_info) }
     ensures kept { AllByRecursion C.is_kept result.guard.part.cells.items × IfSome result.guard.part.table T.is_kept }
     ensures places { 16 ≤ length result.guard.part.cells.items + result.guard.part.cells.room }
     ensures job { (result.job.call ≡ waiting.job.call) × (result.job.from ≡ waiting.job.from) }

@@ -1,4 +1,4 @@
-mod Before
+pub mod Before
 mod Creating
 mod Finding
 mod Starting

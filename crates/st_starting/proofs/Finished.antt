@@ -1,5 +1,5 @@
 -- From what was found, and what a repair did, to what a start promises.
-use Rattle.std.proofs.Common.{◌≡◌, inl, ℕ, ◌+◌, ◌*◌, ◌^◌, ◌≤◌, Bool, true, false, List, [], Option, Some, None, Result, Ok, Err, refl, sym, ap, subst, arith}
+use Rattle.std.proofs.Common.{◌≡◌, inl, ℕ, ◌+◌, ◌*◌, ◌^◌, ◌≤◌, Bool, true, false, List, [], Option, Some, None, Result, Ok, Err, OnOk, refl, sym, subst, arith}
 use Rattle.std.specs.List.{slice_get}
 use Rattle.st_poolrec.specs.declared.record.PoolRec.{PoolRec}
 use Rattle.st_poolrec.specs.Record as pools
@@ -31,7 +31,6 @@ use Rattle.st_starting.specs.Found.{AreBorne, HasEnded, IsStart, TellsOfNone, si
 use Rattle.st_starting.specs.inner.Finding.{IsFinding, IsNewest, IsNewestOr, NewestOn, Writes}
 use Rattle.st_slots.specs.Places.{Lies}
 use Rattle.st_slots.specs.declared.spot.SlotFault.{SlotFault}
-use Rattle.st_slots.specs.declared.spot.SlotFault.TheVariants.{Fault}
 use Rattle.st_books.proofs.Lying.{records_lie}
 use Rattle.st_starting.proofs.Devices.{none_some, paths_sized, sized_has, sized_in}
 use Rattle.st_starting.proofs.Restrict.{bears_there}
@@ -63,28 +62,20 @@ pub on_lie : (p : ℕ) (rack : Devices) (list : List Path) (there : (d : Path) �
 on_lie p rack list there c g rec on d of =
     records_lie rec on.bears.is rack (subst (λ (ds : Devices). AreThere rack ds) (sym on.on) (sized_has rack list there)) d (subst (λ (ds : Devices). IsOf (paths ds) d) (sym on.on) (subst (λ (l : List Path). IsOf l d) (sym (paths_sized rack list)) of))
 
--- answers of one kind aren't of another
-pub ok_start : (a b : Start) → ◌≡◌ {A = Result Start SlotFault} (Ok a) (Ok b) → a ≡ b
-ok_start a b e = cc
-
-pub is_ready : (x : SlotFault) (b : Books) → ◌≡◌ {A = Result Start SlotFault} (Err x) (Ok (starts.Ready b)) → ⊥
-is_ready x b e = cc
-
-pub is_gone : (x : SlotFault) (n : ℕ) → ◌≡◌ {A = Result Start SlotFault} (Err x) (Ok (starts.Gone n)) → ⊥
-is_gone x n e = cc
-
-pub moved_memory : (a : SlotFault) → ◌≡◌ {A = Result Start SlotFault} (Err a) (Err Fault) → ◌≡◌ {A = Result (Unit {0}) SlotFault} (Err a) (Err Fault)
-moved_memory a e = let same : a ≡ Fault = cc in ap (λ (f : SlotFault). Err f) same
-
 module _ (p : ℕ) (rack : Devices) (list : List Path) (c : Image) (f : Finding) (found : IsFinding p rack list c f) (none : f.newest ≡ None) where
   writes_none : Writes f.start None
   writes_none = subst (λ (o : Option Newest). Writes f.start o) none found.writes
 
-  pub unwritten_ready : (b : Books) → ◌≡◌ {A = Result Start SlotFault} (Ok f.start) (Ok (starts.Ready b)) → ⊥
-  unwritten_ready b e = subst (λ (s : Start). Writes s None) (ok_start f.start (starts.Ready b) e) writes_none
+  pub unwritten_ready : (b : Books) → f.start ≡ starts.Ready b → ⊥
+  unwritten_ready b e = subst (λ (s : Start). Writes s None) e writes_none
 
-  pub unwritten_gone : (n : ℕ) → ◌≡◌ {A = Result Start SlotFault} (Ok f.start) (Ok (starts.Gone n)) → ⊥
-  unwritten_gone n e = subst (λ (s : Start). Writes s None) (ok_start f.start (starts.Gone n) e) writes_none
+  pub unwritten_gone : (n : ℕ) → f.start ≡ starts.Gone n → ⊥
+  unwritten_gone n e = subst (λ (s : Start). Writes s None) e writes_none
+
+-- what follows of an `Ok`
+pub on_ok : (P : Type 0) (Q : Type 0) (r : Result (Unit {0}) SlotFault) → (P → Q) → OnOk r P → OnOk r Q
+on_ok P Q (Ok u) each is = each is
+on_ok P Q (Err x) each is = tt
 
 module _ (p : ℕ) (rack : Devices) (list : List Path) (rises : Rises rack) (there : (d : Path) → IsOf list d → (n : ℕ) × Has rack d n) (c : Image) where
   -- what the devices stand for

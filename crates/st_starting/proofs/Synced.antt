@@ -1,8 +1,8 @@
 -- A start is a sync of each device, reads, and a repair.
-use Rattle.std.proofs.Common.{◌≡◌, ℕ, ◌≤◌, List, Result, Ok, Err, IfOk, refl, sym, ◌∙◌, ap, subst, arith}
+use Rattle.std.proofs.Common.{◌≡◌, ℕ, ◌≤◌, List, Result, Ok, Err, IfOk, OnOk, refl, sym, ◌∙◌, ap, subst, arith}
 use Rattle.st_units.specs.Causes.{Rose}
 use Rattle.st_looks.specs.declared.look.DevLook.{DevLook}
-use Rattle.st_rack.specs.Device.{State, Image}
+use Rattle.st_rack.specs.Device.{Path, State, Image, held}
 use Rattle.st_rack.specs.Calls.{Devices}
 use Rattle.st_rack.specs.Moments.{Goes, Keeps}
 use Rattle.st_rack.proofs.Left.{left_settled}
@@ -14,27 +14,27 @@ use Rattle.st_commit.proofs.Onward.{settles_self}
 use Rattle.st_image.specs.Left.{LeftOf, first_sectors}
 use Rattle.st_image.specs.Looks.{look_of}
 use Rattle.st_starting.specs.declared.finding.Finding.{Finding}
-use Rattle.st_starting.specs.declared.outcome.Start.{Start}
 use Rattle.st_starting.specs.Alike.{StandsAlike}
+use Rattle.st_starting.specs.inner.Finding.{IsFinding}
 use Rattle.st_starting.proofs.Mended.{alike_self}
 
 pub rose_after : (a b n : ℕ) → a ≤ b → Rose b n → Rose a n
 rose_after a b n le rose = omega (arith, le, rose)
 
+-- what an `Ok` bears may be said otherwise
+pub if_ok : (P Q : Finding → Type 0) (r : Result Finding SlotFault) → ((f : Finding) → P f → Q f) → IfOk r P → IfOk r Q
+if_ok P Q (Ok f) each is = each f is
+if_ok P Q (Err x) each is = tt
+
+pub settled_now : (P : Type 0) (r : Result Finding SlotFault) → P → OnOk r P
+settled_now P (Ok f) is = is
+settled_now P (Err x) is = tt
+
+pub found_now : {p : ℕ} {a b : Devices} {list : List Path} {s t : State} (f : Finding) → IsFinding p a list (held s) f → a ≡ b → s ≡ t → IsFinding p b list (held t) f
+found_now {p} {a} {b} {list} {s} {t} f found devs states = subst (λ (x : Devices × State). IsFinding p x.0 list (held x.1) f) (λ i. (devs i, states i)) found
+
 pub moved_looks : (a : SlotFault) → ◌≡◌ {A = Result Finding SlotFault} (Err a) (Err Fault) → ◌≡◌ {A = Result (List DevLook) SlotFault} (Err a) (Err Fault)
 moved_looks a e = let same : a ≡ Fault = cc in ap (λ (f : SlotFault). Err f) same
-
-pub moved_finding : (a : SlotFault) → ◌≡◌ {A = Result Start SlotFault} (Err a) (Err Fault) → ◌≡◌ {A = Result Finding SlotFault} (Err a) (Err Fault)
-moved_finding a e = let same : a ≡ Fault = cc in ap (λ (f : SlotFault). Err f) same
-
--- what an `Ok` gives
-pub ok_is : (r : Result Start SlotFault) (x y : Start) → IfOk r (λ s. s ≡ y) → r ≡ Ok x → y ≡ x
-ok_is (Ok s) x y is e = let same : s ≡ x = cc in sym is ∙ same
-ok_is (Err f) x y is e = absurd (cc)
-
-pub ok_as : (P : Start → Type 0) (r : Result Start SlotFault) (y : Start) → IfOk r (λ s. s ≡ y) → P y → IfOk r P
-ok_as P (Ok s) y is of = subst P (sym is) of
-ok_as P (Err f) y is of = tt
 
 module _ (p : ℕ) (devs : Devices) (a b : State) (settles : Settles a b) where
   left_before : (c : Image) → LeftOf p devs b c → LeftOf p devs a c
@@ -42,6 +42,14 @@ module _ (p : ℕ) (devs : Devices) (a b : State) (settles : Settles a b) where
 
   pub before_alike : (s : State) → StandsAlike p devs b s → StandsAlike p devs a s
   before_alike s alike c leaves = let one = alike c leaves in record { image = one.image; left = left_before one.image one.left; same = one.same }
+
+-- reads change nothing
+pub read_on : {D : Type 0} (moment : D → ℕ) (state_at : D → ℕ → State) (r0 r1 r2 : D) → moment r2 ≡ moment r1 → state_at r2 ≡ state_at r1 → Goes moment state_at Settles r0 r1 → Goes moment state_at Settles r0 r2
+read_on moment state_at r0 r1 r2 clock states goes = record {
+  later = omega (arith, goes.later, clock);
+  past = λ k q le. (λ i. states i k q) ∙ goes.past k q le;
+  since = λ k lt le. subst (λ (f : ℕ → State). Settles (state_at r0 (moment r0)) (f k)) (sym states) (goes.since k lt (omega (arith, le, clock)));
+}
 
 module _ {D : Type 0} (moment : D → ℕ) (state_at : D → ℕ → State) (p : ℕ) (devs : Devices) where
   pub synced_alike : (r0 r1 : D) → Goes moment state_at Settles r0 r1 → Keeps moment state_at (StandsAlike p devs (state_at r0 (moment r0))) r0 r1

@@ -7,5 +7,6 @@ mod outcome;
 mod rows;
 mod starting;
 
+pub use finding::{Finding, Newest};
 pub use outcome::Start;
-pub use starting::start;
+pub use starting::{finish, search};

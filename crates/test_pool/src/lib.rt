@@ -8,6 +8,4 @@ mod calls;
 #[cfg(test)]
 mod site;
 #[cfg(test)]
-mod starts;
-#[cfg(test)]
 mod stops;

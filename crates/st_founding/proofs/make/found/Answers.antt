@@ -12,6 +12,7 @@ use Rattle.st_board.proofs.Lending.{holds_added, holds_back, holds_same, parts_a
 use Rattle.st_founding.specs.Founding.{HasFounded, IsLeft, MayFound, new_table}
 use Rattle.st_founding.proofs.Planned.{is_distinct, may_take, there}
 use Rattle.st_founding.proofs.Founding.{broken_is, has_added, has_founded, here_is, ready_is}
+use Rattle.st_founding.proofs.Slack.{slack_cut}
 use Rattle.st_founding.proofs.make.found.Goals as goal
 
 pub split_off-requires-clause-distinct : goal.split_off-requires-clause-distinct
@@ -131,4 +132,4 @@ returns-in-NoMemory-clause-refused g c =
     let counted = c.absorb.ensures.faults in
     let kept = c.in-Ok.ensures.faults in
     let none : R.faults c.in-NoMemory.part ≡ 0 = ap R.faults same ∙ c.in-Ok.ensures.faults_gone in
-    subst (λ w. IsLeft R.faults c.args.board w) boards (subst (λ w. IsLeft R.faults w view) c.board.view_is (record { same = refl; counts = λ small. omega (arith, counted, kept, none, small) }))
+    subst (λ w. IsLeft R.faults c.args.board w) boards (subst (λ w. IsLeft R.faults w view) c.board.view_is (record { same = refl; counts = λ small. omega (arith, counted, kept, none, small); slack = slack_cut (R.faults b.free) (R.faults joined) b.past (omega (arith, counted, kept, none)) }))

@@ -1,5 +1,4 @@
 use Rattle.std.proofs.Common.{◌≡◌, ℕ, ◌+◌, ◌*◌, ◌≤◌, List, length, refl, sym, ◌∙◌, ap, subst, arith}
-use Rattle.std.proofs.lemmas.Result.{err_from_is_err_and}
 use Rattle.st_fields.specs.Slot.{padded}
 use Rattle.st_poolrec.specs.Record as pools
 use Rattle.st_rack.specs.Device.{Path, held}
@@ -9,11 +8,12 @@ use Rattle.st_slots.specs.declared.spot.Area.{Area}
 use Rattle.st_image.specs.Looks.{pool_area}
 use Rattle.st_image.specs.Bears.{paths}
 use Rattle.st_books.proofs.Texts.{record_short}
+use Rattle.st_starting.specs.declared.outcome.Start.TheVariants as starts
 use Rattle.st_starting.specs.Alike.{StandsAlike}
 use Rattle.st_starting.specs.Found.{sized}
 use Rattle.st_starting.proofs.Devices.{paths_sized}
 use Rattle.st_starting.proofs.Mended.{Repaired, Done, alike_self}
-use Rattle.st_starting.proofs.Finished.{alike, gone, is_ready, is_gone, moved_memory, newest_until, ok_start, on_lie, ready, record_fits, the_newest, unwritten_gone, unwritten_ready}
+use Rattle.st_starting.proofs.Finished.{alike, gone, newest_until, on_lie, on_ok, ready, record_fits, the_newest, unwritten_gone, unwritten_ready}
 use Rattle.st_starting.proofs.starting.finish.Goals as goal
 
 -- what a repair is given: the slots, the devices and the record
@@ -32,7 +32,7 @@ repair-requires-clause-lie g c =
     let list = c.args.devs.now in
     let r1 = c.args.rack.now in
     let n = c.in-Some.newest in
-    let newest = the_newest M S p c.requires.from rack list c.requires.rises c.requires.there r1 r1 c.requires.settled c.args.finding c.requires.found n c.in-Some.is in
+    let newest = the_newest M S p c.number-number.ensures.first rack list c.paths_rise.ensures c.requires.there r1 r1 c.requires.settled (record { start = c.requires.found.0; newest = c.args.newest }) c.requires.found.1 n c.in-Some.is in
     λ d of. subst (λ (a : Area). Lies rack d a) (sym c.pool_area.ensures) (on_lie p rack list c.requires.there (held (S r1 (M r1))) n.generation newest.rec newest.on d of)
 
 pub repair-requires-clause-from : goal.repair-requires-clause-from
@@ -44,7 +44,7 @@ repair-requires-clause-from g c =
     let list = c.args.devs.now in
     let r1 = c.args.rack.now in
     let n = c.in-Some.newest in
-    let newest = the_newest M S p c.requires.from rack list c.requires.rises c.requires.there r1 r1 c.requires.settled c.args.finding c.requires.found n c.in-Some.is in
+    let newest = the_newest M S p c.number-number.ensures.first rack list c.paths_rise.ensures c.requires.there r1 r1 c.requires.settled (record { start = c.requires.found.0; newest = c.args.newest }) c.requires.found.1 n c.in-Some.is in
     (newest_until p rack list (held (S r1 (M r1))) n.generation newest.rec newest.on).0
 
 pub repair-requires-clause-until : goal.repair-requires-clause-until
@@ -56,7 +56,7 @@ repair-requires-clause-until g c =
     let list = c.args.devs.now in
     let r1 = c.args.rack.now in
     let n = c.in-Some.newest in
-    let newest = the_newest M S p c.requires.from rack list c.requires.rises c.requires.there r1 r1 c.requires.settled c.args.finding c.requires.found n c.in-Some.is in
+    let newest = the_newest M S p c.number-number.ensures.first rack list c.paths_rise.ensures c.requires.there r1 r1 c.requires.settled (record { start = c.requires.found.0; newest = c.args.newest }) c.requires.found.1 n c.in-Some.is in
     (newest_until p rack list (held (S r1 (M r1))) n.generation newest.rec newest.on).1
 
 pub repair-requires-clause-fits : goal.repair-requires-clause-fits
@@ -68,7 +68,7 @@ repair-requires-clause-fits g c =
     let list = c.args.devs.now in
     let r1 = c.args.rack.now in
     let n = c.in-Some.newest in
-    let newest = the_newest M S p c.requires.from rack list c.requires.rises c.requires.there r1 r1 c.requires.settled c.args.finding c.requires.found n c.in-Some.is in
+    let newest = the_newest M S p c.number-number.ensures.first rack list c.paths_rise.ensures c.requires.there r1 r1 c.requires.settled (record { start = c.requires.found.0; newest = c.args.newest }) c.requires.found.1 n c.in-Some.is in
     subst (λ (x : List ℕ × Area). 64 + length x.0 ≤ 512 * x.1.slot) (λ i. (sym (c.items.ensures ∙ newest.text) i, sym c.pool_area.ensures i)) (record_fits (length (pools.record_text newest.rec)) (record_short newest.rec newest.on.bears.is))
 
 pub repair-requires-clause-room : goal.repair-requires-clause-room
@@ -80,55 +80,8 @@ repair-requires-clause-room g c =
     let list = c.args.devs.now in
     let r1 = c.args.rack.now in
     let n = c.in-Some.newest in
-    let newest = the_newest M S p c.requires.from rack list c.requires.rises c.requires.there r1 r1 c.requires.settled c.args.finding c.requires.found n c.in-Some.is in
+    let newest = the_newest M S p c.number-number.ensures.first rack list c.paths_rise.ensures c.requires.there r1 r1 c.requires.settled (record { start = c.requires.found.0; newest = c.args.newest }) c.requires.found.1 n c.in-Some.is in
     ap length c.deref_mut.ensures.value ∙ newest.work ∙ ap (λ (t : List ℕ). padded (64 + length t)) (sym c.items.ensures)
-
-pub returns-in_err-repair-in-Some-clause-devs : goal.returns-in_err-repair-in-Some-clause-devs
-returns-in_err-repair-in-Some-clause-devs g c =
-    c.repair.ensures.devs
-
-pub returns-in_err-repair-in-Some-clause-spare : goal.returns-in_err-repair-in-Some-clause-spare
-returns-in_err-repair-in-Some-clause-spare g c =
-    c.repair.ensures.spare
-
-pub returns-in_err-repair-in-Some-clause-cause : goal.returns-in_err-repair-in-Some-clause-cause
-returns-in_err-repair-in-Some-clause-cause g c =
-    let q = err_from_is_err_and c.from_residual.result c.from_residual.ensures.1 in rw (q.1, q.2) (λ e. c.in_err-repair-in-Some.ensures.cause (moved_memory _ e))
-
-pub returns-in_err-repair-in-Some-clause-faults : goal.returns-in_err-repair-in-Some-clause-faults
-returns-in_err-repair-in-Some-clause-faults g c =
-    c.repair.ensures.faults
-
-pub returns-in_err-repair-in-Some-clause-during : goal.returns-in_err-repair-in-Some-clause-during
-returns-in_err-repair-in-Some-clause-during g c =
-    let M = g.R.Rack.moment in
-    let S = g.R.Rack.state_at in
-    let p = c.args.serial in
-    let rack = g.R.Rack.devs c.args.rack.now in
-    let list = c.args.devs.now in
-    let r1 = c.args.rack.now in
-    let n = c.in-Some.newest in
-    let r2 = c.repair.new.rack in
-    let newest = the_newest M S p c.requires.from rack list c.requires.rises c.requires.there r1 r2 c.requires.settled c.args.finding c.requires.found n c.in-Some.is in
-    let env = same_args c.pool_area.result pool_area list (paths (sized rack list)) c.items.result.now (pools.record_text newest.rec) c.pool_area.ensures (sym (paths_sized rack list)) (c.items.ensures ∙ newest.text) in
-    let did = subst (λ (x : Args). Repaired M S x.0 x.1 n.generation x.2 r1 r2) env (record { spares = c.repair.ensures.spares; during = c.repair.ensures.during; slots = c.repair.ensures.slots; logs = c.repair.ensures.logs }) in
-    alike M S p c.requires.from rack list c.requires.rises c.requires.there r1 r2 c.requires.settled c.args.finding c.requires.found n c.in-Some.is did
-
-pub returns-in_err-repair-in-Some-clause-start : goal.returns-in_err-repair-in-Some-clause-start
-returns-in_err-repair-in-Some-clause-start g c =
-    let q = err_from_is_err_and c.from_residual.result c.from_residual.ensures.1 in rw q.1 tt
-
-pub returns-in_err-repair-in-Some-clause-ready : goal.returns-in_err-repair-in-Some-clause-ready
-returns-in_err-repair-in-Some-clause-ready g c =
-    let q = err_from_is_err_and c.from_residual.result c.from_residual.ensures.1 in rw q.1 (λ b e. absurd (is_ready _ b e))
-
-pub returns-in_err-repair-in-Some-clause-settled : goal.returns-in_err-repair-in-Some-clause-settled
-returns-in_err-repair-in-Some-clause-settled g c =
-    let q = err_from_is_err_and c.from_residual.result c.from_residual.ensures.1 in rw q.1 tt
-
-pub returns-in_err-repair-in-Some-clause-gone : goal.returns-in_err-repair-in-Some-clause-gone
-returns-in_err-repair-in-Some-clause-gone g c =
-    let q = err_from_is_err_and c.from_residual.result c.from_residual.ensures.1 in rw q.1 (λ n e k d at. absurd (is_gone _ n e))
 
 pub returns-in-None-clause-devs : goal.returns-in-None-clause-devs
 returns-in-None-clause-devs g c =
@@ -156,10 +109,6 @@ returns-in-None-clause-during g c =
     let r1 = c.args.rack.now in
     keeps_self M S (StandsAlike p (sized rack list) (S r1 (M r1))) r1 (alike_self p (sized rack list) (S r1 (M r1)))
 
-pub returns-in-None-clause-start : goal.returns-in-None-clause-start
-returns-in-None-clause-start g c =
-    refl
-
 pub returns-in-None-clause-ready : goal.returns-in-None-clause-ready
 returns-in-None-clause-ready g c =
     let M = g.R.Rack.moment in
@@ -168,7 +117,7 @@ returns-in-None-clause-ready g c =
     let rack = g.R.Rack.devs c.args.rack.now in
     let list = c.args.devs.now in
     let r1 = c.args.rack.now in
-    λ b e. absurd (unwritten_ready p rack list (held (S r1 (M r1))) c.args.finding c.requires.found c.in-None.is b e)
+    λ b found. absurd (unwritten_ready p rack list (held (S r1 (M r1))) (record { start = starts.Ready b; newest = c.args.newest }) found c.in-None.is b refl)
 
 pub returns-in-None-clause-settled : goal.returns-in-None-clause-settled
 returns-in-None-clause-settled g c =
@@ -182,26 +131,26 @@ returns-in-None-clause-gone g c =
     let rack = g.R.Rack.devs c.args.rack.now in
     let list = c.args.devs.now in
     let r1 = c.args.rack.now in
-    λ n e k d at. absurd (unwritten_gone p rack list (held (S r1 (M r1))) c.args.finding c.requires.found c.in-None.is n e)
+    λ n found. absurd (unwritten_gone p rack list (held (S r1 (M r1))) (record { start = starts.Gone n; newest = c.args.newest }) found c.in-None.is n refl)
 
-pub returns-in_ok-repair-in-Some-clause-devs : goal.returns-in_ok-repair-in-Some-clause-devs
-returns-in_ok-repair-in-Some-clause-devs g c =
+pub returns-in-Some-clause-devs : goal.returns-in-Some-clause-devs
+returns-in-Some-clause-devs g c =
     c.repair.ensures.devs
 
-pub returns-in_ok-repair-in-Some-clause-spare : goal.returns-in_ok-repair-in-Some-clause-spare
-returns-in_ok-repair-in-Some-clause-spare g c =
+pub returns-in-Some-clause-spare : goal.returns-in-Some-clause-spare
+returns-in-Some-clause-spare g c =
     c.repair.ensures.spare
 
-pub returns-in_ok-repair-in-Some-clause-cause : goal.returns-in_ok-repair-in-Some-clause-cause
-returns-in_ok-repair-in-Some-clause-cause g c =
-    λ e. absurd (cc)
+pub returns-in-Some-clause-cause : goal.returns-in-Some-clause-cause
+returns-in-Some-clause-cause g c =
+    c.repair.ensures.cause
 
-pub returns-in_ok-repair-in-Some-clause-faults : goal.returns-in_ok-repair-in-Some-clause-faults
-returns-in_ok-repair-in-Some-clause-faults g c =
+pub returns-in-Some-clause-faults : goal.returns-in-Some-clause-faults
+returns-in-Some-clause-faults g c =
     c.repair.ensures.faults
 
-pub returns-in_ok-repair-in-Some-clause-during : goal.returns-in_ok-repair-in-Some-clause-during
-returns-in_ok-repair-in-Some-clause-during g c =
+pub returns-in-Some-clause-during : goal.returns-in-Some-clause-during
+returns-in-Some-clause-during g c =
     let M = g.R.Rack.moment in
     let S = g.R.Rack.state_at in
     let p = c.args.serial in
@@ -210,17 +159,13 @@ returns-in_ok-repair-in-Some-clause-during g c =
     let r1 = c.args.rack.now in
     let n = c.in-Some.newest in
     let r2 = c.repair.new.rack in
-    let newest = the_newest M S p c.requires.from rack list c.requires.rises c.requires.there r1 r2 c.requires.settled c.args.finding c.requires.found n c.in-Some.is in
+    let newest = the_newest M S p c.number-number.ensures.first rack list c.paths_rise.ensures c.requires.there r1 r2 c.requires.settled (record { start = c.requires.found.0; newest = c.args.newest }) c.requires.found.1 n c.in-Some.is in
     let env = same_args c.pool_area.result pool_area list (paths (sized rack list)) c.items.result.now (pools.record_text newest.rec) c.pool_area.ensures (sym (paths_sized rack list)) (c.items.ensures ∙ newest.text) in
     let did = subst (λ (x : Args). Repaired M S x.0 x.1 n.generation x.2 r1 r2) env (record { spares = c.repair.ensures.spares; during = c.repair.ensures.during; slots = c.repair.ensures.slots; logs = c.repair.ensures.logs }) in
-    alike M S p c.requires.from rack list c.requires.rises c.requires.there r1 r2 c.requires.settled c.args.finding c.requires.found n c.in-Some.is did
+    alike M S p c.number-number.ensures.first rack list c.paths_rise.ensures c.requires.there r1 r2 c.requires.settled (record { start = c.requires.found.0; newest = c.args.newest }) c.requires.found.1 n c.in-Some.is did
 
-pub returns-in_ok-repair-in-Some-clause-start : goal.returns-in_ok-repair-in-Some-clause-start
-returns-in_ok-repair-in-Some-clause-start g c =
-    refl
-
-pub returns-in_ok-repair-in-Some-clause-ready : goal.returns-in_ok-repair-in-Some-clause-ready
-returns-in_ok-repair-in-Some-clause-ready g c =
+pub returns-in-Some-clause-ready : goal.returns-in-Some-clause-ready
+returns-in-Some-clause-ready g c =
     let M = g.R.Rack.moment in
     let S = g.R.Rack.state_at in
     let p = c.args.serial in
@@ -229,18 +174,18 @@ returns-in_ok-repair-in-Some-clause-ready g c =
     let r1 = c.args.rack.now in
     let n = c.in-Some.newest in
     let r2 = c.repair.new.rack in
-    let newest = the_newest M S p c.requires.from rack list c.requires.rises c.requires.there r1 r2 c.requires.settled c.args.finding c.requires.found n c.in-Some.is in
+    λ b found.
+    let newest = the_newest M S p c.number-number.ensures.first rack list c.paths_rise.ensures c.requires.there r1 r2 c.requires.settled (record { start = starts.Ready b; newest = c.args.newest }) found n c.in-Some.is in
     let env = same_args c.pool_area.result pool_area list (paths (sized rack list)) c.items.result.now (pools.record_text newest.rec) c.pool_area.ensures (sym (paths_sized rack list)) (c.items.ensures ∙ newest.text) in
     let did = subst (λ (x : Args). Repaired M S x.0 x.1 n.generation x.2 r1 r2) env (record { spares = c.repair.ensures.spares; during = c.repair.ensures.during; slots = c.repair.ensures.slots; logs = c.repair.ensures.logs }) in
-    let done = subst (λ (x : Args). Done x.0 x.1 n.generation x.2 (S r1 (M r1)) (S r2 (M r2))) env c.in_ok-repair-in-Some.ensures.done in
-    λ b e. ready M S p c.requires.from rack list c.requires.rises c.requires.there r1 r2 c.requires.settled c.args.finding c.requires.found n c.in-Some.is did done b (ok_start _ _ e)
+    on_ok _ _ c.repair.result (λ done. ready M S p c.number-number.ensures.first rack list c.paths_rise.ensures c.requires.there r1 r2 c.requires.settled (record { start = starts.Ready b; newest = c.args.newest }) found n c.in-Some.is did (subst (λ (x : Args). Done x.0 x.1 n.generation x.2 (S r1 (M r1)) (S r2 (M r2))) env done) b refl) c.repair.ensures.done
 
-pub returns-in_ok-repair-in-Some-clause-settled : goal.returns-in_ok-repair-in-Some-clause-settled
-returns-in_ok-repair-in-Some-clause-settled g c =
-    λ d of. c.in_ok-repair-in-Some.ensures.settled d (c.requires.settled d of)
+pub returns-in-Some-clause-settled : goal.returns-in-Some-clause-settled
+returns-in-Some-clause-settled g c =
+    on_ok _ _ c.repair.result (λ still d of. still d (c.requires.settled d of)) c.repair.ensures.settled
 
-pub returns-in_ok-repair-in-Some-clause-gone : goal.returns-in_ok-repair-in-Some-clause-gone
-returns-in_ok-repair-in-Some-clause-gone g c =
+pub returns-in-Some-clause-gone : goal.returns-in-Some-clause-gone
+returns-in-Some-clause-gone g c =
     let M = g.R.Rack.moment in
     let S = g.R.Rack.state_at in
     let p = c.args.serial in
@@ -249,8 +194,8 @@ returns-in_ok-repair-in-Some-clause-gone g c =
     let r1 = c.args.rack.now in
     let n = c.in-Some.newest in
     let r2 = c.repair.new.rack in
-    let newest = the_newest M S p c.requires.from rack list c.requires.rises c.requires.there r1 r2 c.requires.settled c.args.finding c.requires.found n c.in-Some.is in
+    λ n' found.
+    let newest = the_newest M S p c.number-number.ensures.first rack list c.paths_rise.ensures c.requires.there r1 r2 c.requires.settled (record { start = starts.Gone n'; newest = c.args.newest }) found n c.in-Some.is in
     let env = same_args c.pool_area.result pool_area list (paths (sized rack list)) c.items.result.now (pools.record_text newest.rec) c.pool_area.ensures (sym (paths_sized rack list)) (c.items.ensures ∙ newest.text) in
     let did = subst (λ (x : Args). Repaired M S x.0 x.1 n.generation x.2 r1 r2) env (record { spares = c.repair.ensures.spares; during = c.repair.ensures.during; slots = c.repair.ensures.slots; logs = c.repair.ensures.logs }) in
-    let done = subst (λ (x : Args). Done x.0 x.1 n.generation x.2 (S r1 (M r1)) (S r2 (M r2))) env c.in_ok-repair-in-Some.ensures.done in
-    λ n' e k d at. gone M S p c.requires.from rack list c.requires.rises c.requires.there r1 r2 c.requires.settled c.args.finding c.requires.found n c.in-Some.is did done n' (ok_start _ _ e) k d at
+    on_ok _ _ c.repair.result (λ done. gone M S p c.number-number.ensures.first rack list c.paths_rise.ensures c.requires.there r1 r2 c.requires.settled (record { start = starts.Gone n'; newest = c.args.newest }) found n c.in-Some.is did (subst (λ (x : Args). Done x.0 x.1 n.generation x.2 (S r1 (M r1)) (S r2 (M r2))) env done) n' refl) c.repair.ensures.done

@@ -20,11 +20,14 @@ use Rattle.st_pool.specs.inner.Makings.{broken_books, new_rows}
 use Rattle.st_pool.proofs.Creating.{created}
 use Rattle.st_pool.proofs.Makings.{makes_broken, makes_ready, pool_broken, pool_made}
 use Rattle.st_pool.proofs.NewRows.{are_rows, are_small, free_new, paths_new, there_new}
-use Rattle.st_pool.specs.declared.made.Made.TheVariants.{Ready}
+use Rattle.st_pool.specs.declared.made.Made.TheVariants.{Broken, Ready}
 use Rattle.st_pool.proofs.pool.Pool.make.Goals as goal
 
 same_pool : {D : Type 0} (v p : PoolView D) → Ready v ≡ Ready p → v ≡ p
 same_pool v p e = cc
+
+broken_pool : {D : Type 0} (v p : PoolView D) → Broken v ≡ Broken p → v ≡ p
+broken_pool v p e = cc
 
 pub ready-requires-clause-rows : goal.ready-requires-clause-rows
 ready-requires-clause-rows g c =
@@ -150,8 +153,8 @@ make-requires-clause-free g c =
     let books_are = plan.begun.books in
     subst (λ (b : Books). AreFree b.rec.serial (rows_of b.rec) (S r0 (M r0))) (sym books_are) (free_new (B r0) p list (S r0 (M r0)) may)
 
-pub invariant_of-result : goal.invariant_of-result
-invariant_of-result g c =
+pub standing-requires : goal.standing-requires
+standing-requires g c =
     let B = g.R.Rack.devs in
     let M = g.R.Rack.moment in
     let S = g.R.Rack.state_at in
@@ -173,12 +176,11 @@ invariant_of-result g c =
     let settled = c.in-Ok-make.ensures.settled in
     let own = c.in-Ok.plan.begun.infos.own in
     let other = c.in-Ok.plan.begun.infos.spare in
-    subst (λ (r : _). IsPool B M S F c.in-Ok.plan.begun.books None list own (Some other) r1 r 0) (sym c.of-seen.ensures)
-    (subst (λ (b : Books). IsPool B M S F b None list own (Some other) r1 r1 0) (sym books_are)
-    (pool_made B M S F p name list r0 may first last r1 same ready settled own other plan.begun.infos.own plan.begun.infos.spare))
+    subst (λ (b : Books). IsPool B M S F b None list own (Some other) r1 r1 0) (sym books_are)
+    (pool_made B M S F p name list r0 may first last r1 same ready settled own other plan.begun.infos.own plan.begun.infos.spare)
 
-pub invariant_of-result-in-Err-make : goal.invariant_of-result-in-Err-make
-invariant_of-result-in-Err-make g c =
+pub standing-requires-in-Err-make : goal.standing-requires-in-Err-make
+standing-requires-in-Err-make g c =
     let B = g.R.Rack.devs in
     let M = g.R.Rack.moment in
     let S = g.R.Rack.state_at in
@@ -198,9 +200,8 @@ invariant_of-result-in-Err-make g c =
     let during = subst (λ (b : Books). Keeps M S (Survived b.rec.serial (rows_of b.rec) (IsMade (made b.rec))) r0 r1) books_are c.make.ensures.during in
     let down = plan.broken in
     let rose = c.in-Err-make.ensures.cause.failed in
-    subst (λ (r : _). IsPool B M S F c.in-Ok.plan.broken.books (Some c.in-Ok.plan.broken.call) list c.in-Ok.plan.broken.infos.own (Some c.in-Ok.plan.broken.infos.spare) r1 r 1) (sym c.of-seen-in-Err-make.ensures)
-    (subst (λ (x : Books × Call). IsPool B M S F x.0 (Some x.1) list c.in-Ok.plan.broken.infos.own (Some c.in-Ok.plan.broken.infos.spare) r1 r1 1) (λ i. (sym down.books i, sym down.call i))
-    (pool_broken B M S F p name list r0 may first last r1 same during rose c.in-Ok.plan.broken.infos.own c.in-Ok.plan.broken.infos.spare down.infos.own down.infos.spare))
+    subst (λ (x : Books × Call). IsPool B M S F x.0 (Some x.1) list c.in-Ok.plan.broken.infos.own (Some c.in-Ok.plan.broken.infos.spare) r1 r1 1) (λ i. (sym down.books i, sym down.call i))
+    (pool_broken B M S F p name list r0 may first last r1 same during rose c.in-Ok.plan.broken.infos.own c.in-Ok.plan.broken.infos.spare down.infos.own down.infos.spare)
 
 pub returns-in-Ok-make-clause-ready : goal.returns-in-Ok-make-clause-ready
 returns-in-Ok-make-clause-ready g c =
@@ -226,12 +227,9 @@ returns-in-Ok-make-clause-ready g c =
     let own = c.in-Ok.plan.begun.infos.own in
     let other = c.in-Ok.plan.begun.infos.spare in
     let makes =
-    subst (λ (r : _). Makes B M S F p name list Plain (created p list) r0 (view_of M S c.in-Ok.plan.begun.books None true r1 r 0)) (sym c.of-seen.ensures)
-    (subst (λ (b : Books). Makes B M S F p name list Plain (created p list) r0 (view_of M S b None true r1 r1 0)) (sym books_are)
-    (makes_ready B M S F p name list r0 may first last r1 same ready settled own other plan.begun.infos.own plan.begun.infos.spare during)) in
-    λ pool e.
-    let told = same_pool (view_of M S c.in-Ok.plan.begun.books None true r1 c.of-seen.result.value 0) pool e in
-    subst (λ (v : PoolView _). Makes B M S F p name list Plain (created p list) r0 v) told makes
+    subst (λ (b : Books). Makes B M S F p name list Plain (created p list) r0 (view_of M S b None true r1 r1 0)) (sym books_are)
+    (makes_ready B M S F p name list r0 may first last r1 same ready settled own other plan.begun.infos.own plan.begun.infos.spare during) in
+    λ pool e. subst (λ (v : PoolView _). Makes B M S F p name list Plain (created p list) r0 v) (sym c.standing.ensures ∙ same_pool c.standing.result pool e) makes
 
 pub returns-in-Ok-make-clause-broken : goal.returns-in-Ok-make-clause-broken
 returns-in-Ok-make-clause-broken g c =
@@ -267,12 +265,9 @@ returns-in-Err-make-clause-broken g c =
     let down = plan.broken in
     let rose = c.in-Err-make.ensures.cause.failed in
     let makes =
-    subst (λ (r : _). Makes B M S F p name list FaultWrite (refused DeviceFault) r0 (view_of M S c.in-Ok.plan.broken.books (Some c.in-Ok.plan.broken.call) true r1 r 1)) (sym c.of-seen-in-Err-make.ensures)
-    (subst (λ (x : Books × Call). Makes B M S F p name list FaultWrite (refused DeviceFault) r0 (view_of M S x.0 (Some x.1) true r1 r1 1)) (λ i. (sym down.books i, sym down.call i))
-    (makes_broken B M S F p name list r0 may first last r1 same during rose c.in-Ok.plan.broken.infos.own c.in-Ok.plan.broken.infos.spare down.infos.own down.infos.spare)) in
-    λ pool e.
-    let told : view_of M S c.in-Ok.plan.broken.books (Some c.in-Ok.plan.broken.call) true r1 c.of-seen-in-Err-make.result.value 1 ≡ pool = cc in
-    subst (λ (v : PoolView _). Makes B M S F p name list FaultWrite (refused DeviceFault) r0 v) told makes
+    subst (λ (x : Books × Call). Makes B M S F p name list FaultWrite (refused DeviceFault) r0 (view_of M S x.0 (Some x.1) true r1 r1 1)) (λ i. (sym down.books i, sym down.call i))
+    (makes_broken B M S F p name list r0 may first last r1 same during rose c.in-Ok.plan.broken.infos.own c.in-Ok.plan.broken.infos.spare down.infos.own down.infos.spare) in
+    λ pool e. subst (λ (v : PoolView _). Makes B M S F p name list FaultWrite (refused DeviceFault) r0 v) (sym c.standing-in-Err-make.ensures ∙ broken_pool c.standing-in-Err-make.result pool e) makes
 
 pub returns-in-Err-make-clause-refused : goal.returns-in-Err-make-clause-refused
 returns-in-Err-make-clause-refused g c =

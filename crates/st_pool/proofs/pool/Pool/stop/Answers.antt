@@ -7,12 +7,12 @@ use Rattle.st_model.specs.declared.reply.Reply.{Reply}
 use Rattle.st_model.specs.declared.state.EngineState.{EngineState}
 use Rattle.st_model.specs.Answer.{accepted}
 use Rattle.st_model.specs.Checks.{halted}
-use Rattle.st_model.specs.Step.{step}
+use Rattle.st_model.specs.Step.{can_start, step}
 use Rattle.st_rack.specs.Device.{held}
 use Rattle.st_pool.specs.declared.flight.Flight.{Flight}
 use Rattle.st_pool.specs.Halts.{Halts}
 use Rattle.st_pool.specs.View.{PoolView, engine_of, pool_with}
-use Rattle.st_pool.proofs.Halting.{flight_with, halts, stop_is}
+use Rattle.st_pool.proofs.Halting.{can_again, flight_with, halts, stop_is}
 use Rattle.st_pool.proofs.pool.Pool.stop.Goals as goal
 
 pub of-requires-clause-first : goal.of-requires-clause-first
@@ -59,3 +59,10 @@ returns-clause-rack g c = ap (λ (v : PoolView _). v.rack) c.self.view_is
 
 pub returns-clause-faults : goal.returns-clause-faults
 returns-clause-faults g c = ap (λ (v : PoolView _). v.faults) c.self.view_is
+
+pub returns-clause-starts : goal.returns-clause-starts
+returns-clause-starts g c =
+    let x = c.self.inside in
+    let M = g.R.Rack.moment in
+    let S = g.R.Rack.state_at in
+    subst (λ (v : PoolView _). can_start (halted v.pool).mode ≡ true) c.self.view_is (can_again x.books x.flight (held (S x.seen.value (M x.seen.value))))

@@ -1,0 +1,2 @@
+pub mod Rejoining
+pub mod Beginning

@@ -1,0 +1,5 @@
+pub mod Gathering
+pub mod Pieces
+pub mod Lists
+pub mod Places
+pub mod Closed

@@ -1,0 +1,14 @@
+use Rattle.std.proofs.Common.{◌≡◌, ◌+◌, length, map}
+use Rattle.std.specs.List.{sum_by}
+use Rattle.st_pool.specs.Halts.{HaltedView}
+use Rattle.st_pool.specs.View.{PoolView}
+use Rattle.st_closing.specs.inner.Gathering.{rack_in}
+use Rattle.st_closing.proofs.Gathering.{Going}
+use Rattle.st_closing.proofs.gather.join_started.Given as goal
+
+abbrev pub invariant-loop : goal.invariant-loop
+invariant-loop g l = record {
+  going : Going g.R.Rack.devs g.R.Rack.moment g.R.Rack.state_at g.R.Rack.faults g.R.Rack.spare l.fn.rack (map rack_in l.fn.cells.items) (sum_by (λ (x : PoolView g.row.R.Denot). x.faults) l.fn.cells.items)
+      l.rack (map rack_in l.cells.items) (sum_by (λ (x : PoolView g.row.R.Denot). x.faults) l.cells.items);
+  count : length l.cells.items + l.counter ≡ l.end;
+}

@@ -1,0 +1,3 @@
+mod Leaving
+pub mod Plainly
+pub mod Freed

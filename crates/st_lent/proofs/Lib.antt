@@ -1,0 +1,5 @@
+mod Places
+mod Out
+mod Back
+mod Waking
+mod Vanishing

@@ -1,0 +1,4 @@
+use Rattle.st_lock.proofs.seat.seen_by.Given as goal
+
+abbrev pub ghost-new : goal.ghost-new
+ghost-new g a = a.first.now.seen

@@ -1,0 +1,3 @@
+mod Starting
+pub mod Meaning
+mod Tabling

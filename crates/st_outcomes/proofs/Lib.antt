@@ -1,0 +1,4 @@
+mod Told
+mod Others
+mod Stopping
+mod Ending

@@ -1,0 +1,4 @@
+pub mod Refused
+pub mod Becoming
+pub mod Tabled
+pub mod Renaming

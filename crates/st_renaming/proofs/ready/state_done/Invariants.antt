@@ -1,0 +1,7 @@
+use Rattle.st_model.specs.declared.entry.Env.TheVariants.{Plain}
+use Rattle.st_model.specs.Parts.{table_of}
+use Rattle.st_model.specs.Step.{step}
+use Rattle.st_renaming.proofs.ready.state_done.Given as goal
+
+abbrev pub ghost-new : goal.ghost-new
+ghost-new a = table_of (step a.first.now.value a.second.now.value Plain).1

@@ -1,0 +1,6 @@
+mod Plainly
+mod Faults
+mod Whole
+mod Reported
+mod Given
+mod Returning

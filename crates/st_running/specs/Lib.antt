@@ -1,0 +1,4 @@
+pub mod Calls
+pub mod Part
+pub mod Gives
+pub mod Returns

@@ -1,0 +1,8 @@
+use Rattle.st_model.specs.declared.call.Call.TheVariants.{StopPool}
+use Rattle.st_model.specs.declared.entry.Env.TheVariants.{Plain}
+use Rattle.st_model.specs.Parts.{table_of}
+use Rattle.st_model.specs.Step.{step}
+use Rattle.st_stopping.proofs.run.state_after.Given as goal
+
+abbrev pub ghost-new : goal.ghost-new
+ghost-new a = table_of (step a.first.now.value (StopPool a.second.now) Plain).1

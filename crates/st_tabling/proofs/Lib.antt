@@ -1,0 +1,3 @@
+pub mod Last
+pub mod Course
+pub mod First

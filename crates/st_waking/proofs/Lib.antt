@@ -1,0 +1,9 @@
+mod Sizing
+mod Readying
+mod Meeting
+mod Taking
+mod Setting
+mod Coming
+mod Vanishing
+mod Staying
+mod Plainly

@@ -1,0 +1,4 @@
+pub mod Met
+pub mod Readies
+pub mod Taken
+pub mod Did
