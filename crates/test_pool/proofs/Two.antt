@@ -1,5 +1,5 @@
 -- A pool may be made of two blank devices.
-use Rattle.std.proofs.Common.{◌≡◌, ℕ, zero, suc, ◌≤◌, ◌^◌, Bool, true, false, ◌||◌, cond, bytes_eq, List, [], ◌∷◌, Option, Some, None, Result, Ok, Err, refl, sym, ◌∙◌, ap, subst, arith}
+use Rattle.std.proofs.Common.{◌≡◌, ℕ, zero, suc, Bool, true, false, ◌||◌, cond, bytes_eq, List, [], ◌∷◌, Some, None, Result, Ok, Err, refl, sym, ◌∙◌, ap, subst, arith}
 use Rattle.std.specs.Prelude.{IfOk}
 use Rattle.std.specs.List.{slice_get}
 use Rattle.std.proofs.lemmas.Slice.Eq.{bytes_eq-Decides}
@@ -11,7 +11,7 @@ use Rattle.st_model.specs.declared.state.PoolState.{PoolState}
 use Rattle.st_model.specs.Look.{flight_of, gives_name}
 use Rattle.st_model.specs.Shown.{pool_info, shown_mode}
 use Rattle.st_rack.specs.Device.{Path, DevState, State}
-use Rattle.st_rack.specs.Calls.{Devices, Has, names, sectors_of}
+use Rattle.st_rack.specs.Calls.{Devices, names, sectors_of}
 use Rattle.st_rack.specs.Parts.{IsSame}
 use Rattle.st_memrack.specs.Blank.{IsBlank}
 use Rattle.st_commit.specs.Ready.{AreDistinct, IsOf}

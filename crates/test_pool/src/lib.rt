@@ -2,10 +2,14 @@
 #![tactic(auto)]
 
 #[cfg(test)]
+mod again;
+#[cfg(test)]
 mod bytes;
 #[cfg(test)]
 mod calls;
 #[cfg(test)]
 mod site;
+#[cfg(test)]
+mod starts;
 #[cfg(test)]
 mod stops;

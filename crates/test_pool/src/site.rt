@@ -1,7 +1,6 @@
 // Two devices, a pool on them, and what stands in their sectors.
-ghost use Rattle.std.specs.Prelude.{◌≡◌, ◌≤◌, ◌∷◌, [], ℕ, IfOk, IsTrue, false};
+ghost use Rattle.std.specs.Prelude.{◌≡◌, ◌≤◌, ◌∷◌, [], IfOk, false};
 ghost use Rattle.std.specs.Str.{bytes_eq};
-ghost use Rattle.st_rack.specs.Calls.{Has};
 ghost use Rattle.st_rack.specs.Parts.{IsSame};
 ghost use Rattle.st_memrack.specs.MemRack.{mem_devs, mem_moment, mem_state_at, mem_reads};
 ghost use Rattle.st_pool.specs.Makes.{MayTake};
@@ -31,21 +30,6 @@ pub fn pair(alloc: Global, first: &DevPath, second: &DevPath) -> Result<DevList,
     Ok(devs)
 }
 
-/// Whether these are two devices that the rack has.
-pub fn has_both(rack: &MemRack, first: &DevPath, second: &DevPath) -> bool
-    ensures differ { IsTrue result → bytes_eq first.now second.now ≡ false }
-    ensures first { IsTrue result → (n : ℕ) × Has (mem_devs rack.now) first.now n }
-    ensures second { IsTrue result → (n : ℕ) × Has (mem_devs rack.now) second.now n }
-{
-    if first.bytes() == second.bytes() {
-        return false;
-    }
-    if rack.sectors(first).is_none() {
-        return false;
-    }
-    rack.sectors(second).is_some()
-}
-
 /// Two blank devices of 8,192 sectors.
 fn blank(alloc: Global, first: DevPath, second: DevPath) -> Result<MemRack, NoMemory>
     requires { bytes_eq first second ≡ false }
@@ -67,8 +51,30 @@ fn set_stop(alloc: Global, rack: &mut MemRack, stop: Option<Stop>) -> Result<(),
     Ok(())
 }
 
+fn set_stops(
+    alloc: Global,
+    rack: &mut MemRack,
+    stop: Option<Stop>,
+    more: Option<Stop>,
+) -> Result<(), Fail>
+    ensures { IsSame mem_devs mem_moment mem_state_at mem_reads rack.old rack.new }
+{
+    set_stop(alloc, rack, stop)?;
+    set_stop(alloc, rack, more)
+}
+
 /// Makes the pool tank, of serial 1, on two blank devices. The calls of the devices are recorded.
 pub fn make(alloc: Global, stop: Option<Stop>, pick: Pick) -> Result<Made<MemRack>, Fail> {
+    make_until(alloc, stop, None, pick)
+}
+
+/// The same with one more stop.
+pub fn make_until(
+    alloc: Global,
+    stop: Option<Stop>,
+    more: Option<Stop>,
+    pick: Pick,
+) -> Result<Made<MemRack>, Fail> {
     let first = DevPath::read(alloc, b"/dev/sim0")?;
     let second = DevPath::read(alloc, b"/dev/sim1")?;
     if first.bytes() == second.bytes() {
@@ -77,7 +83,7 @@ pub fn make(alloc: Global, stop: Option<Stop>, pick: Pick) -> Result<Made<MemRac
     let devs = pair(alloc, &first, &second)?;
     let name = Name::read(alloc, b"tank")?;
     let mut rack = blank(alloc, first, second)?;
-    set_stop(alloc, &mut rack, stop)?;
+    set_stops(alloc, &mut rack, stop, more)?;
     rack.pick(pick);
     rack.mark();
     Ok(Pool::make(alloc, name, PoolSerial::of(1), devs, rack))
