@@ -1,5 +1,5 @@
 -- what a creation gives back is what release asks
-use Rattle.std.proofs.Common.{ℕ, ◌≡◌, ◌≤◌, inl, inr, length, arith, true, false, cond, List, [], ◌∷◌, Option, Some, None, Result, Ok, Err, refl, ap, sym, ◌∙◌, subst}
+use Rattle.std.proofs.Common.{ℕ, ◌≡◌, ◌≤◌, inl, inr, length, arith, Bool, true, false, cond, List, [], ◌∷◌, Option, Some, None, Result, Ok, Err, refl, ap, sym, ◌∙◌, subst}
 use Rattle.std.specs.Prelude.{IfSome, IfOk, OnErr, option_map}
 use Rattle.std.specs.List.{AllByRecursion, sum_by}
 use Rattle.std.proofs.lemmas.List.Sums.{sum_by-cons}
@@ -14,7 +14,8 @@ use Rattle.st_model.specs.declared.reply.Reply.{Reply}
 use Rattle.st_model.specs.declared.state.EngineState.{EngineState}
 use Rattle.st_model.specs.declared.state.PoolState.{PoolState}
 use Rattle.st_model.specs.Answer.{refused}
-use Rattle.st_model.specs.Parts.{pool_at, started, table_of, shown_table}
+use Rattle.st_model.specs.Look.{Text}
+use Rattle.st_model.specs.Parts.{own, pool_at, started, table_of, shown_table}
 use Rattle.st_model.specs.Pieces.{ArePools, every}
 use Rattle.st_model.specs.Shown.{pool_info}
 use Rattle.st_model.specs.Step.{IsLicensed, is_built, step}
@@ -32,7 +33,7 @@ use Rattle.st_lock.specs.Held.{Rose, faults_in}
 use Rattle.st_lock.specs.Seats.{LockSeat, state_at}
 use Rattle.test_lock.specs.Creating.{IsCreation, IsModels, HasMade}
 use Rattle.test_lock.specs.Refusing.{Holds}
-use Rattle.test_lock.proofs.Refusals.{each_own, refused-step}
+use Rattle.test_lock.proofs.Refusals.{each_own, in_state, refused-step}
 
 abbrev pub viewed : TableView → book.TableView
 viewed t = record { state = t.state; slack = 0 }
@@ -52,12 +53,12 @@ no-table call s cells c h =
     let board = stands.board in
     absurd cc
 
-shown-still : (s : EngineState) (cells : List CellView) → ArePools every s (pools_of cells) → AllByRecursion (CellIsShown s) cells
-shown-still s cells are = here cells (each_own (pools_of cells) are.apart)
+pub shown-still : (is_in : Text → Bool) (s : EngineState) (cells : List CellView) → ArePools is_in s (pools_of cells) → AllByRecursion (CellIsShown s) cells
+shown-still is_in s cells are = here cells (each_own (pools_of cells) are.apart)
   where
     here : (cs : List CellView) → AllByRecursion (λ (p : PoolState). pool_at p.name (pools_of cells) ≡ Some p) (pools_of cs) → AllByRecursion (CellIsShown s) cs
     here [] h = tt
-    here (c ∷ cs) h = (inr (sym (are.found c.pool.name) ∙ h.0), here cs h.1)
+    here (c ∷ cs) h = (inr (in_state (is_in c.pool.name) (own c.pool.name s) c.pool (sym h.0 ∙ are.found c.pool.name)), here cs h.1)
 
 -- the entry of a creation that was answered, or refused memory
 pub made : (s : EngineState) (call : Call) (line : ℕ) (e : Entry) (answer : Result Reply NoMemory) (before cells : List CellView) (held table : TableView) → e.call ≡ call → e.from ≡ Line line
@@ -76,7 +77,7 @@ made s call line e (Err x) before cells held table is from plain none answered s
     record {
       models = record { call_is = is; from = from; env = inr none.1; replied = none.0 ∙ (ap (λ (a : Reply × EngineState). a.0) (sym (refused-step s call)) ∙ ap (λ z. (step s call z).0) (sym none.1)) };
       part = subst (λ z. PartIs (step s call z).1 (pools_of cells) table.state) (sym none.1) (subst (λ z. PartIs z (pools_of cells) table.state) after now);
-      infos = shown-still s cells now.pools;
+      infos = shown-still every s cells now.pools;
       table_info = inr now.board;
     }
 
@@ -139,18 +140,23 @@ no_faults : (table : Option TableView) (cells : List CellView) → faults_in (λ
 no_faults None cells = let s = no_sum cells in omega arith
 no_faults (Some t) cells = let s = no_sum cells in omega arith
 
-pub made-rose : (v : LockSeat) (ticket : ℕ) (call : Call) (line : ℕ) (e : Entry) (es : List Entry) (pools : List PoolState) (board : Option book.TableView) (before cells : List CellView) (held table : Option TableView) → IsCreation call → es ≡ e ∷ [] → IsModels (state_at v) call line e
+-- an entry that isn't answered with a fault leaves the faults of plain cells as they were
+pub calm-rose : (v : LockSeat) (ticket : ℕ) (call : Call) (e : Entry) (es : List Entry) (pools : List PoolState) (board : Option book.TableView) (before cells : List CellView) (held table : Option TableView) → es ≡ e ∷ [] → is_failure e ≡ false
     → Holds v ticket call pools board (faults_in (λ (t : TableView). 0) (λ (c : CellView). 0) held before) → Rose v ticket (faults_in (λ (t : TableView). 0) (λ (c : CellView). 0) table cells) (failures_of es)
-made-rose v ticket call line e es pools board before cells held table c alone m h = record {
+calm-rose v ticket call e es pools board before cells held table alone quiet h = record {
   number = h.number;
   noted = h.noted;
   rose = λ short.
       let was = h.whole short in
       let none_before = no_faults held before in
       let none_after = no_faults table cells in
-      let none : failures_of es ≡ 0 = ap failures_of alone ∙ ap (λ b. length (cond b (e ∷ []) [])) (calm (state_at v) call line e c m) in
+      let none : failures_of es ≡ 0 = ap failures_of alone ∙ ap (λ b. length (cond b (e ∷ []) [])) quiet in
       omega arith;
 }
+
+pub made-rose : (v : LockSeat) (ticket : ℕ) (call : Call) (line : ℕ) (e : Entry) (es : List Entry) (pools : List PoolState) (board : Option book.TableView) (before cells : List CellView) (held table : Option TableView) → IsCreation call → es ≡ e ∷ [] → IsModels (state_at v) call line e
+    → Holds v ticket call pools board (faults_in (λ (t : TableView). 0) (λ (c : CellView). 0) held before) → Rose v ticket (faults_in (λ (t : TableView). 0) (λ (c : CellView). 0) table cells) (failures_of es)
+made-rose v ticket call line e es pools board before cells held table c alone m h = calm-rose v ticket call e es pools board before cells held table alone (calm (state_at v) call line e c m) h
 
 pub answered-in : {P : Reply → Type 0} (Q : Reply → Type 0) (answer : Result Reply NoMemory) → ((r : Reply) → P r → Q r) → IfOk answer P → IfOk answer Q
 answered-in Q (Ok r) f h = f r h

@@ -79,7 +79,7 @@ unfolding IsDistinct
 each_own [] h = tt
 each_own (p ∷ ps) h = (ap (λ b. cond b (Some p) (pool_at p.name ps)) (nat_list_eq_equiv.refl p.name), others p ps ps h.0 (each_own ps h.1))
 
-in_state : (b : Bool) (o : Option PoolState) (p : PoolState) → Some p ≡ cond b o None → o ≡ Some p
+pub in_state : (b : Bool) (o : Option PoolState) (p : PoolState) → Some p ≡ cond b o None → o ≡ Some p
 in_state true o p h = sym h
 in_state false o p h = absurd cc
 

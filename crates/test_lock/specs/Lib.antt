@@ -1,2 +1,4 @@
 pub mod Refusing
 pub mod Creating
+pub mod Setting
+pub mod Ending

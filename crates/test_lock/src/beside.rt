@@ -1,9 +1,10 @@
 // The lock in two threads, whose lines all want one pool.
-ghost use Rattle.std.specs.Prelude.{◌≡◌, All};
+ghost use Rattle.std.specs.Prelude.{◌≡◌, ◌∷◌, ◌++◌, [], All};
 
+use crate::ending::{Side, Work, end_apart, join_sides};
 use crate::lanes::{join_seats, split_seats};
 use crate::refusing::run_refused;
-use crate::visits::{check_of, new_lock, quiet_log};
+use crate::visits::{ask, check_of, further, granted, kept_back, new_lock, quiet_log};
 use st_book::{Event, Log};
 use st_lock::{AllOrSome, Seat};
 use st_model::{Board, Cell, Origin};
@@ -94,4 +95,46 @@ fn two_threads_run_their_lines_in_order(rt: HostRuntime) -> Result<(), Fail> {
         }
     }
     Ok(())
+}
+
+/// One more side.
+fn put<C: Cell, T: Board>(rt: &impl Abort, sides: &mut Vec<Side<C, T>>, side: Side<C, T>)
+    ensures { sides.new.items ≡ sides.old.items ++ side ∷ [] }
+{
+    match sides.push(side) {
+        Ok(()) => {}
+        Err(_refused) => panic!(rt; "no memory for a side"),
+    }
+}
+
+#[test]
+fn a_guard_and_a_waiting_ticket_end_in_other_threads(rt: HostRuntime) {
+    let alloc = rt.alloc();
+    let (lock, mut last) = new_lock(&rt, alloc);
+    let mut one = further(&rt, &lock, &mut last);
+    let mut two = further(&rt, &lock, &mut last);
+    let zeroth = ask(&rt, &lock, alloc, &mut one, check_of(&rt, alloc, "p"));
+    let first = ask(&rt, &lock, alloc, &mut two, check_of(&rt, alloc, "p"));
+    let zeroth = granted(&rt, &lock, &mut one, zeroth);
+    let first = kept_back(&rt, &lock, &mut two, first, 0);
+    let mut sides = Vec::new(alloc);
+    put(
+        &rt,
+        &mut sides,
+        Side {
+            seat: one,
+            work: Work::Held(zeroth),
+        },
+    );
+    put(
+        &rt,
+        &mut sides,
+        Side {
+            seat: two,
+            work: Work::Asked(first),
+        },
+    );
+    end_apart(&rt, &lock, &mut sides);
+    join_sides(&lock, &mut last, sides);
+    assert_eq!(rt; quiet_log(&rt, lock, last, 0).len(), 6);
 }

@@ -28,7 +28,7 @@ use std::alloc::Global;
 use std::sync::Wait;
 
 /// The entry of a line's call with this answer, or without memory.
-fn entry_of(call: Call, line: u64, answer: Result<Reply, NoMemory>) -> Entry
+pub(crate) fn entry_of(call: Call, line: u64, answer: Result<Reply, NoMemory>) -> Entry
     ensures call { result.call ≡ call }
     ensures from { result.from ≡ Origin.Line line }
     ensures plain { IfOk answer (λ reply. (result.reply ≡ reply) × (result.env ≡ Plain)) }

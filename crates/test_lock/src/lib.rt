@@ -6,15 +6,19 @@ mod beside;
 #[cfg(test)]
 mod book;
 pub mod creating;
+pub mod ending;
 #[cfg(test)]
 mod grants;
 pub mod lanes;
+#[cfg(test)]
+mod limit;
 #[cfg(test)]
 mod lock;
 #[cfg(test)]
 mod made;
 pub mod plain_lock;
 pub mod refusing;
+pub mod setting;
 pub mod staying;
 #[cfg(test)]
 mod visits;

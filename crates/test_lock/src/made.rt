@@ -12,7 +12,7 @@ use std::process::Abort;
 use std::sync::Wait;
 
 /// Makes the pool on the one device, by this line.
-fn create(
+pub fn create(
     rt: &(impl Wait + Abort),
     alloc: Global,
     lock: &PlainLock,
@@ -30,7 +30,7 @@ fn create(
 }
 
 /// The entry of a release.
-fn entry_at<'a>(rt: &impl Abort, log: &'a Log, place: usize) -> &'a Entry {
+pub fn entry_at<'a>(rt: &impl Abort, log: &'a Log, place: usize) -> &'a Entry {
     assert!(rt; place < log.len());
     match log.at(place) {
         Event::Release(_, _, entries) => {

@@ -1,10 +1,11 @@
 // What tests ask of the lock, with ample memory: a refusal ends the test, and so does another answer than the expected one.
-ghost use Rattle.std.specs.Prelude.{◌≡◌, map, option_map, IfSome};
+ghost use Rattle.std.specs.Prelude.{◌≡◌, map, option_map, true, IfSome};
 ghost use Rattle.std.specs.List.{AllByRecursion};
 ghost use Rattle.st_model.specs.Sound.{IsSound};
 ghost use Rattle.st_lock.specs.Held.{faults_in};
 ghost use Rattle.test_lock.specs.Creating.{IsCreation};
 ghost use Rattle.test_lock.specs.Refusing.{Awaits, Holds};
+ghost use Rattle.test_lock.specs.Setting.{is_setting};
 
 use crate::plain_lock::{PlainLock, PlainSeat, open};
 use crate::refusing::{Running, Waiting, arrive, job_of, try_once};
@@ -73,6 +74,16 @@ pub fn creation_of(rt: &impl Abort, alloc: Global, pool: &str) -> Call
             devices,
         },
         Err(_) => panic!(rt; "no memory for a list"),
+    }
+}
+
+/// The call that sets how many filesystems the pool may have.
+pub fn limit_of(rt: &impl Abort, alloc: Global, pool: &str, limit: u64) -> Call
+    ensures { is_setting result ≡ true }
+{
+    Call::SetFsLimit {
+        pool: name_of(rt, alloc, pool),
+        limit,
     }
 }
 
