@@ -1,10 +1,4 @@
-pub mod Begun
-pub mod Laned
-pub mod Logs
-pub mod OneCall
-pub mod Opened
-pub mod Parts
-pub mod Places
-pub mod Runs
+pub mod Boards
+pub mod Ends
 pub mod Shown
-pub mod Steps
+pub mod Small

@@ -8,15 +8,15 @@ use Rattle.st_model.specs.Answer.{refused}
 use Rattle.st_calls.specs.declared.fault.LineFault.{LineFault}
 use Rattle.st_calls.specs.Form.{form}
 use Rattle.st_calls.specs.Names.{call_word}
-use Rattle.st_model.specs.Step.{is_built}
 use Rattle.st_replies.specs.Shown.{reply_line, summary_line, not_built_line}
 use Rattle.st_check.specs.Checked.{fault_reply, still}
 use Rattle.st_trace.specs.Traced.{trace_line}
-use Rattle.st_session.specs.Entries.{entries_of, entry_of}
+use Rattle.st_running.specs.Calls.{runs}
+use Rattle.st_laning.specs.Entries.{entries_of, entry_of}
 
 -- the reply to a call without an entry: that the engine doesn't run it, or want of memory before it arrived
 abbrev pub unentered_line : ℕ → Call → List ℕ
-unentered_line n call = if is_built call then reply_line n (refused causes.OutOfMemory) else not_built_line n (call_word call)
+unentered_line n call = if runs call then reply_line n (refused causes.OutOfMemory) else not_built_line n (call_word call)
 
 -- the reply to a line without an entry
 abbrev pub formed_line : ℕ → Result (ℕ × Call) LineFault → List ℕ

@@ -1,5 +1,2 @@
-pub mod Going
-pub mod OnPart
+pub mod Ended
 pub mod Printing
-pub mod Running
-pub mod View

@@ -1,16 +1,15 @@
-//! A session: from the bytes that come in to the bytes that go out.
+//! A session: from the bytes that come in to the bytes that go out, over the engine on devices.
 #![tactic(auto)]
 
-mod begin;
+mod fit;
 mod input;
-mod lines;
-mod on_part;
+mod on_board;
+mod on_rack;
 mod outcome;
 mod output;
-mod session;
+mod told;
 mod top;
 
-pub use begin::opening;
+pub use fit::is_fit;
 pub use outcome::Outcome;
-pub use session::{Answer, Session};
 pub use top::run_words;

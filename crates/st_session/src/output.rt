@@ -4,12 +4,12 @@ ghost use Rattle.st_units.specs.Causes.{Rose};
 ghost use Rattle.st_lines.specs.Printing.{Prints, Started, Stops};
 ghost use Rattle.st_session.specs.Out.{trace_of};
 ghost use Rattle.st_session.specs.inner.Printing.{Replies, whole, IsShown, AreShown, shown_line, shown_ok, shown_from, shown_oks};
-ghost use Rattle.st_session.specs.inner.Running.{IsRelease};
+ghost use Rattle.st_laning.specs.inner.Running.{IsRelease};
 
-use crate::session::Answer;
 use st_calls::call_word;
 use st_check::{count_ok, fault_reply, print_summary};
 use st_history::{Event, Log};
+use st_laning::Answer;
 use st_lines::{Outlet, Sink, WriteStop};
 use st_model::Reply;
 use st_replies::{not_built_line, reply_line};

@@ -2,17 +2,19 @@ ghost use Rattle.std.specs.Prelude.{◌≡◌, ◌⊎◌, ◌≤◌, [], false, 
 ghost use Rattle.std.specs.Io.KnownBytes.{IsAtEnd};
 ghost use Rattle.st_units.specs.Causes.{Rose};
 ghost use Rattle.st_limits.specs.declared.TheConstants.{MAX_LANES};
-ghost use Rattle.st_history.specs.Failures.{failures};
+ghost use Rattle.st_model.specs.declared.state.EngineState.{EngineState};
 ghost use Rattle.st_history.specs.History.{History};
 ghost use Rattle.st_lines.specs.Limits.{first_broken};
 ghost use Rattle.st_rack.specs.Calls.{IsFit};
+ghost use Rattle.st_rack.specs.Device.{held};
+ghost use Rattle.st_image.specs.Rack.{IsForeign, RackStands};
+ghost use Rattle.st_begin.specs.Begun.{IsBack};
 ghost use Rattle.st_words.specs.Meaning.{words_of};
 ghost use Rattle.st_gen.specs.Script.{script};
 ghost use Rattle.st_status.specs.Statuses.{IsWritten, IsEarly, IsOfInput, IsOfDevices, Wrote};
 ghost use Rattle.st_check.specs.Checked.{IsCheck};
-ghost use Rattle.st_session.specs.Headline.{IsDone, IsCutOff};
+ghost use Rattle.st_session.specs.Headline.{Counts, HasStopped, IsCutOff, IsDone};
 ghost use Rattle.st_session.specs.Modes.{are_served, asks_lanes, asks_mode, asks_number, asks_trace, ask_input};
-ghost use Rattle.st_session.specs.Opening.{opening};
 
 use crate::input::run_script;
 use crate::outcome::Outcome;
@@ -42,13 +44,12 @@ fn served_words(alloc: Global, words: &[String]) -> Result<Words, Status>
     }
 }
 
-/// Does what the words ask for. In mode `run` that is a run of a script: it reads the whole input, runs each line that
-/// is a call, and writes the reply lines, with `--trace` the trace, and the summary. In mode `check` it looks at the
-/// lines' form alone, and in mode `gen` it writes a script.
+/// Does what the words ask for. In mode `run` that is a run of a script: it reads the whole input, begins the engine on the rack, runs each
+/// line that is a call, closes the engine, and writes the reply lines, with `--trace` the trace, and the summary. In mode `check` it looks
+/// at the lines' form alone, and in mode `gen` it writes a script.
 ///
-/// Nothing is written before all lines have run. The rack comes back as it was handed in, and the
-/// log of the lock with it. Want of memory may end a run at any moment; each other status has its
-/// cause as a clause.
+/// Nothing is written before all lines have run and the engine is closed. All devices come back in one rack, with every status, and the log
+/// of the lock with it. Want of memory may end a run at any moment; each other status has its cause as a clause.
 pub fn run_words<
     W: Threads + Wait + Copy + Sync,
     S: Source,
@@ -65,27 +66,28 @@ pub fn run_words<
     gate: &G,
 ) -> Outcome<R>
     requires { IsFit (R.devs rack) }
-    ensures rack { result.rack ≡ rack }
 
-    // In mode `run`: what was done, and what was written.
-    ensures done { asks_mode (words_of (map string_bytes words.now)) ≡ Some RunMode.Run → result.status ≡ Status.Done → IsDone (R.devs rack) (asks_lanes (words_of (map string_bytes words.now))) (asks_trace (words_of (map string_bytes words.now))) (S.left source.old) (K.held sink.old) (K.held sink.new) result.log.items }
-    ensures cut_off { asks_mode (words_of (map string_bytes words.now)) ≡ Some RunMode.Run → result.status ≡ Status.WriteFault → IsCutOff (R.devs rack) (asks_lanes (words_of (map string_bytes words.now))) (asks_trace (words_of (map string_bytes words.now))) (S.left source.old) (K.held sink.old) (K.held sink.new) result.log.items }
-    ensures out_of_memory { asks_mode (words_of (map string_bytes words.now)) ≡ Some RunMode.Run → result.status ≡ Status.OutOfMemory → IsCutOff (R.devs rack) (asks_lanes (words_of (map string_bytes words.now))) (asks_trace (words_of (map string_bytes words.now))) (S.left source.old) (K.held sink.old) (K.held sink.new) result.log.items }
+    // In mode `run`: what was done, what was written, and which devices came back.
+    ensures done { asks_mode (words_of (map string_bytes words.now)) ≡ Some RunMode.Run → result.status ≡ Status.Done → IsDone R.devs R.moment R.state_at R.faults rack (asks_lanes (words_of (map string_bytes words.now))) (asks_trace (words_of (map string_bytes words.now))) (S.left source.old) (K.held sink.old) (K.held sink.new) result.log.items result.rack }
+    ensures cut_off { asks_mode (words_of (map string_bytes words.now)) ≡ Some RunMode.Run → result.status ≡ Status.WriteFault → IsCutOff R.devs R.moment R.state_at R.faults rack (asks_lanes (words_of (map string_bytes words.now))) (asks_trace (words_of (map string_bytes words.now))) (S.left source.old) (K.held sink.old) (K.held sink.new) result.log.items result.rack }
+    ensures out_of_memory { asks_mode (words_of (map string_bytes words.now)) ≡ Some RunMode.Run → result.status ≡ Status.OutOfMemory → HasStopped R.devs R.moment R.state_at R.faults rack (asks_lanes (words_of (map string_bytes words.now))) (asks_trace (words_of (map string_bytes words.now))) (S.left source.old) (K.held sink.old) (K.held sink.new) result.log.items result.rack }
 
-    // In the other modes no line runs.
+    // In the other modes no line runs, and no device is touched.
     ensures checked { asks_mode (words_of (map string_bytes words.now)) ≡ Some RunMode.Check → IsCheck (asks_lanes (words_of (map string_bytes words.now))) result.status (S.left source.old) (K.held sink.old) (K.held sink.new) }
     ensures generated { asks_mode (words_of (map string_bytes words.now)) ≡ Some RunMode.Gen → Wrote result.status (K.held sink.old) (K.held sink.new) (script (asks_lanes (words_of (map string_bytes words.now))) (asks_number (words_of (map string_bytes words.now)))) }
-    ensures nothing_ran { (asks_mode (words_of (map string_bytes words.now)) ≡ Some RunMode.Run → ⊥) → result.log.items ≡ [] }
+    ensures nothing_ran { (asks_mode (words_of (map string_bytes words.now)) ≡ Some RunMode.Run → ⊥) → (result.log.items ≡ []) × (result.rack ≡ rack) }
 
     // In every mode.
     ensures early { IsEarly result.status → (sink.new ≡ sink.old) × (result.log.items ≡ []) }
+    ensures untouched { IsEarly result.status → (IsOfDevices result.status → ⊥) → result.rack ≡ rack }
+    ensures back { IsOfDevices result.status → IsBack R.devs R.moment R.state_at R.faults rack result.rack }
     ensures unserved { are_served (words_of (map string_bytes words.now)) ≡ false → (source.new ≡ source.old) × (sink.new ≡ sink.old) }
     ensures end { ask_input (words_of (map string_bytes words.now)) ≡ true → IsWritten result.status → IsAtEnd (S.left source.new) }
     ensures no_input { ask_input (words_of (map string_bytes words.now)) ≡ false → source.new ≡ source.old }
 
     // What holds of the log with every status.
-    ensures history { History (opening (R.devs rack)) result.log.items }
-    ensures calm { failures result.log.items ≡ 0 }
+    ensures history { (s0 : EngineState) → RackStands (R.devs rack) (held (R.state_at rack (R.moment rack))) s0 → History s0 result.log.items }
+    ensures counts { Counts R.devs R.moment R.state_at R.faults rack result.log.items result.rack }
 
     // The cause of each status.
     ensures usage { result.status ≡ Status.Usage → are_served (words_of (map string_bytes words.now)) ≡ false }
@@ -95,7 +97,9 @@ pub fn run_words<
     ensures limit { (limit : Limit) → result.status ≡ Status.InputLimit limit → IfSome (S.left source.old) (λ input. first_broken input ≡ Some limit) }
     ensures within_limit { ask_input (words_of (map string_bytes words.now)) ≡ true → IsWritten result.status → IfSome (S.left source.old) (λ input. first_broken input ≡ None) }
     ensures of_input { IsOfInput result.status → ask_input (words_of (map string_bytes words.now)) ≡ true }
-    ensures no_device { IsOfDevices result.status → ⊥ }
+    ensures open_fault { result.status ≡ Status.OpenFault → Rose (R.faults rack) (R.faults result.rack) }
+    ensures foreign { (n : _) → result.status ≡ Status.Foreign n → IsForeign (R.devs rack) (held (R.state_at rack (R.moment rack))) n }
+    ensures of_devices { IsOfDevices result.status → asks_mode (words_of (map string_bytes words.now)) ≡ Some RunMode.Run }
 {
     let _ = rt;
     let words = match served_words(alloc, words) {

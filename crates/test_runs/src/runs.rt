@@ -3,6 +3,7 @@ use st_lines::{Limit, MemorySink, MemorySource};
 use st_model::{Gate, NoGate};
 use st_session::run_words;
 use st_status::{Status, exit_status, status_line};
+use st_units::PoolSerial;
 use std::alloc::Global;
 use std::sync::atomic::{AtomicU64, Ordering};
 
@@ -15,7 +16,7 @@ struct Row {
     output: &'static str,
 }
 
-const ROWS: [Row; 10] = [
+const ROWS: [Row; 11] = [
     Row {
         name: "no line",
         trace: false,
@@ -86,6 +87,52 @@ summary lines 2 ok 2 refused 0 written 0 read 0
 {"code":0,"line":3,"result":[true,["00000000-0000-0001-0100-000000000000",["/dev/sim0"]]],"text":""}
 {"code":6,"line":4,"result":null,"text":"DeviceInUse path=/dev/sim0 pool=p"}
 summary lines 4 ok 1 refused 3 written 0 read 0
+"#,
+    },
+    Row {
+        name: "a pool's life",
+        trace: false,
+        devices: 2,
+        input: r#"{"call":"CreatePool","name":"p","devices":["/dev/sim0"]}
+{"call":"RenamePool","name":"p","new":"p"}
+{"call":"RenamePool","name":"p","new":"q"}
+{"call":"RenamePool","name":"p","new":"r"}
+{"call":"StopPool","name":"q"}
+{"call":"StopPool","name":"q"}
+{"call":"RenamePool","name":"q","new":"r"}
+{"call":"DestroyPool","name":"q"}
+{"call":"CreatePool","name":"r","devices":["/dev/sim0"]}
+{"call":"CreatePool","name":"q","devices":["/dev/sim1"]}
+{"call":"EngineStateReport"}
+{"call":"StartPool","id":"q"}
+{"call":"StartPool","id":"00000000-0000-0001-0100-000000000000","id_type":"uuid"}
+{"call":"StartPool","id":"p","id_type":"name"}
+{"call":"DestroyPool","name":"q"}
+{"call":"DestroyPool","name":"q"}
+{"call":"StopPool","name":"q"}
+{"call":"CreatePool","name":"q","devices":["/dev/sim0","/dev/sim1"]}
+{"call":"EngineStateReport"}
+"#,
+        output: r#"{"code":0,"line":1,"result":[true,["00000000-0000-0001-0100-000000000000",["/dev/sim0"]]],"text":""}
+{"code":0,"line":2,"result":[false,null],"text":""}
+{"code":0,"line":3,"result":[true,"00000000-0000-0001-0100-000000000000"],"text":""}
+{"code":13,"line":4,"result":null,"text":"NoSuchPool"}
+{"code":0,"line":5,"result":[true,"00000000-0000-0001-0100-000000000000"],"text":""}
+{"code":0,"line":6,"result":[false,null],"text":""}
+{"code":11,"line":7,"result":null,"text":"PoolStopped"}
+{"code":11,"line":8,"result":null,"text":"PoolStopped"}
+{"code":6,"line":9,"result":null,"text":"DeviceInUse path=/dev/sim0 pool=q"}
+{"code":5,"line":10,"result":null,"text":"NameInUse"}
+{"code":0,"line":11,"result":{"free_devices":["/dev/sim1"],"next_serial":2,"pools":[{"mode":"stopped","name":"q","uuid":"00000000-0000-0001-0100-000000000000"}]},"text":""}
+{"code":0,"line":12,"result":[true,"00000000-0000-0001-0100-000000000000"],"text":""}
+{"code":0,"line":13,"result":[false,null],"text":""}
+{"code":13,"line":14,"result":null,"text":"NoSuchPool"}
+{"code":0,"line":15,"result":[true,"00000000-0000-0001-0100-000000000000"],"text":""}
+{"code":0,"line":16,"result":[false,null],"text":""}
+{"code":13,"line":17,"result":null,"text":"NoSuchPool"}
+{"code":0,"line":18,"result":[true,["00000000-0000-0002-0100-000000000000",["/dev/sim0","/dev/sim1"]]],"text":""}
+{"code":0,"line":19,"result":{"free_devices":[],"next_serial":3,"pools":[{"mode":"up","name":"q","uuid":"00000000-0000-0002-0100-000000000000"}]},"text":""}
+summary lines 19 ok 12 refused 7 written 0 read 0
 "#,
     },
     Row {
@@ -275,6 +322,7 @@ fn each_status_has_its_line(rt: HostRuntime) -> Result<()> {
             "input limit: line 17",
         ),
         (Status::OpenFault, 7, "open fault"),
+        (Status::Foreign(PoolSerial::of(1)), 8, "foreign pool 1"),
     ];
     for (status, exit, text) in rows {
         assert_eq!(rt; exit_status(&status), exit, "{}", text);

@@ -7,12 +7,12 @@ use Rattle.st_model.specs.declared.reply.Reply.{Reply}
 use Rattle.st_model.specs.Answer.{refused}
 use Rattle.st_calls.specs.Names.{call_word}
 use Rattle.st_replies.specs.Shown.{reply_line, not_built_line}
-use Rattle.st_session.specs.declared.session.Answer.{Answer}
-use Rattle.st_session.specs.declared.session.Answer.TheVariants.{Ran, Fault, NotBuilt, Refused}
-use Rattle.st_session.specs.Entries.{entries_of, entry_of}
+use Rattle.st_laning.specs.declared.answers.Answer.{Answer}
+use Rattle.st_laning.specs.declared.answers.Answer.TheVariants.{Ran, Fault, NotBuilt, Refused}
+use Rattle.st_laning.specs.Entries.{entries_of, entry_of}
 use Rattle.st_check.specs.Checked.{fault_reply}
 use Rattle.st_session.specs.Out.{entered_line, is_ok, trace_of, summary}
-use Rattle.st_session.specs.inner.Running.{IsRelease}
+use Rattle.st_laning.specs.inner.Running.{IsRelease}
 
 -- the reply line of line n, from its answer
 abbrev pub entry_line : ℕ → Option Entry → List ℕ

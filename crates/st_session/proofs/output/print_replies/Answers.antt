@@ -1,7 +1,7 @@
 use Rattle.std.proofs.Common.{◌≡◌, ℕ, zero, suc, ◌+◌, ◌<◌, arith, List, [], ◌∷◌, length, ◌++◌, ◌∙◌, drop, get_or, sym, ap, append_assoc}
 use Rattle.std.proofs.lemmas.List.{at_drop_more}
-use Rattle.st_session.specs.declared.session.Answer.{Answer}
-use Rattle.st_session.specs.declared.session.Answer.TheVariants.{Ran}
+use Rattle.st_laning.specs.declared.answers.Answer.{Answer}
+use Rattle.st_laning.specs.declared.answers.Answer.TheVariants.{Ran}
 use Rattle.st_lines.specs.Printing.{Stops}
 use Rattle.st_session.specs.inner.Printing.{shown_line, shown_from}
 use Rattle.st_lines.proofs.Printed.{on_err, printing_as, printing-Started}
