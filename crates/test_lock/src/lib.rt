@@ -1,14 +1,10 @@
-//! The lock: which tickets are granted, the book, the lock of one thread and of two, and callers of the whole.
+//! The lock of one thread and of two, and callers of the whole.
 #![tactic(auto)]
 
 #[cfg(test)]
 mod beside;
-#[cfg(test)]
-mod book;
 pub mod creating;
 pub mod ending;
-#[cfg(test)]
-mod grants;
 pub mod lanes;
 #[cfg(test)]
 mod limit;

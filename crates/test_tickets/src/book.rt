@@ -4,8 +4,6 @@ ghost use Rattle.std.specs.List.{AllByRecursion};
 ghost use Rattle.st_wants.specs.Lock.{start, arrived, granted, released, row_at, IsLive, IsWaiting};
 ghost use Rattle.st_wants.specs.Wants.{takes_table};
 
-use crate::plain_lock::one_device;
-use crate::refusing::refused_entry;
 use st_book::{Book, Part, Peek};
 use st_model::{Call, EntryList};
 use st_plain::{PlainCell, PlainTable};
@@ -14,6 +12,8 @@ use st_wants::{Mode, Names, Want};
 use std::alloc::Global;
 use std::process::Abort;
 use std::test::Fail;
+use test_lock::plain_lock::one_device;
+use test_lock::refusing::refused_entry;
 
 fn new_book(alloc: Global, rows: DevRows) -> Result<Book<PlainCell, PlainTable>, NoMemory>
     ensures { IfOk result (λ book. book.lock ≡ start) }
