@@ -9,3 +9,4 @@ mod rows;
 mod told;
 
 pub use begin::{Begun, begin_board};
+pub use rejoin::join_back;
