@@ -70,6 +70,10 @@ own_row t v = row_told t (events_of v.own)
 abbrev pub IsHeard : LockSeat → Type 0
 IsHeard v = told_by noted_by v.number v.seen ≡ v.own
 
+-- this is the last event of the log, as far as it has seen it
+abbrev pub EndsWith : Noted → LockSeat → Type 0
+EndsWith e v = (before : List Noted) × (v.seen ≡ before ++ e ∷ [])
+
 -- the seat later on: it has seen more of the log
 pub record IsAfter (old new : LockSeat) : Type 0 where
   pub turn : new.turn ≡ old.turn

@@ -12,7 +12,7 @@ ghost use Rattle.st_lock.specs.Outcomes.{IfGranted, IfNotYet};
 ghost use Rattle.st_lock.specs.Held.{Rose, faults_in};
 ghost use Rattle.st_lock.specs.Opening.{IsOpening, state_of};
 ghost use Rattle.st_wants.specs.Lock.{IsLeastBlocker, new_row};
-ghost use Rattle.st_lock.specs.Seats.{first_lock_seat, lock_split, lock_new, lock_join, IsHeard, IsLater, lock_at, own_row, plain, state_at};
+ghost use Rattle.st_lock.specs.Seats.{first_lock_seat, lock_split, lock_new, lock_join, EndsWith, IsHeard, IsLater, lock_at, own_row, plain, state_at};
 
 use crate::bell::Bell;
 use crate::desk::Desk;
@@ -198,6 +198,7 @@ impl<C: Cell, T: Board> AllOrSome<C, T> {
         requires kept { AllByRecursion C.is_kept guard.part.cells.items × IfSome guard.part.table T.is_kept }
         ensures later { IsLater seat.old seat.new }
         ensures own { seat.new.own ≡ seat.old.own ++ plain (Event.Release seat.old.number guard.ticket entries) ∷ [] }
+        ensures last { EndsWith (plain (Event.Release seat.old.number guard.ticket entries)) seat.new }
     {
         let Guard { ticket, part } = guard;
         let Desk { book } = self.turn.take(rt, &mut seat.seat);
