@@ -1,0 +1,2 @@
+mod Halted
+mod Sifted
