@@ -1,13 +1,14 @@
 ghost use Rattle.std.specs.Prelude.{◌≡◌, option_map, option_copied};
-ghost use Rattle.serde_json.specs.View.{view};
+ghost use Rattle.st_calls.specs.inner.View.{view};
 ghost use Rattle.st_calls.specs.Gives.{Gives};
 ghost use Rattle.st_calls.specs.IoForms.{whole_sectors, hex_payload, as_byte, fill_payload, payload_by, payload_of, fs_write, fs_read};
 
 use crate::fault::LineFault;
 use crate::members::number_at;
 use crate::pool_forms::{own_name_at, pool_at};
+use crate::value::{as_text, get};
 use hex::FromHexError;
-use serde_json::Value;
+use json::Value;
 use st_limits::SECTOR_BYTES;
 use st_model::{Call, Payload};
 use st_units::{Bytes, Member};
@@ -24,10 +25,10 @@ fn whole_sectors(bytes: Bytes) -> Result<Payload, LineFault>
 }
 
 #[tactic(auto, unfolding(crate::specs::IoForms::hex_payload))]
-fn hex_payload(alloc: Global, value: &Value) -> Result<Payload, LineFault>
+fn hex_payload(alloc: Global, value: &Value<'_>) -> Result<Payload, LineFault>
     ensures { Gives (λ payload. payload) result (hex_payload (view value.now)) }
 {
-    let Some(text) = value.as_str() else {
+    let Some(text) = as_text(value) else {
         return Err(LineFault::BadCall(Member::Hex));
     };
     match hex::decode(alloc, text) {
@@ -48,7 +49,7 @@ fn as_byte(number: u64) -> Result<u8, LineFault>
 }
 
 #[tactic(auto, unfolding(crate::specs::IoForms::fill_payload))]
-fn fill_payload(value: &Value) -> Result<Payload, LineFault>
+fn fill_payload(value: &Value<'_>) -> Result<Payload, LineFault>
     ensures { Gives (λ payload. payload) result (fill_payload (view value.now)) }
 {
     let byte = as_byte(number_at(value, "fill", Member::Fill)?)?;
@@ -56,7 +57,11 @@ fn fill_payload(value: &Value) -> Result<Payload, LineFault>
     Ok(Payload::Fill(byte, sectors))
 }
 
-fn payload_by(alloc: Global, hex: Option<&Value>, value: &Value) -> Result<Payload, LineFault>
+fn payload_by(
+    alloc: Global,
+    hex: Option<&Value<'_>>,
+    value: &Value<'_>,
+) -> Result<Payload, LineFault>
     ensures { Gives (λ payload. payload) result (payload_by (option_map view (option_copied hex.entry)) (view value.now)) }
 {
     match hex {
@@ -67,14 +72,14 @@ fn payload_by(alloc: Global, hex: Option<&Value>, value: &Value) -> Result<Paylo
 
 /// The bytes in hex where they are there, else one byte throughout.
 #[tactic(auto, unfolding(crate::specs::IoForms::payload_of))]
-fn payload_of(alloc: Global, value: &Value) -> Result<Payload, LineFault>
+fn payload_of(alloc: Global, value: &Value<'_>) -> Result<Payload, LineFault>
     ensures { Gives (λ payload. payload) result (payload_of (view value.now)) }
 {
-    payload_by(alloc, value.get("hex"), value)
+    payload_by(alloc, get(value, "hex"), value)
 }
 
 #[tactic(auto, unfolding(crate::specs::IoForms::fs_write))]
-pub(crate) fn fs_write(alloc: Global, value: &Value) -> Result<Call, LineFault>
+pub(crate) fn fs_write(alloc: Global, value: &Value<'_>) -> Result<Call, LineFault>
     ensures { Gives (λ call. call) result (fs_write (view value.now)) }
 {
     let pool = pool_at(alloc, value)?;
@@ -90,7 +95,7 @@ pub(crate) fn fs_write(alloc: Global, value: &Value) -> Result<Call, LineFault>
 }
 
 #[tactic(auto, unfolding(crate::specs::IoForms::fs_read))]
-pub(crate) fn fs_read(alloc: Global, value: &Value) -> Result<Call, LineFault>
+pub(crate) fn fs_read(alloc: Global, value: &Value<'_>) -> Result<Call, LineFault>
     ensures { Gives (λ call. call) result (fs_read (view value.now)) }
 {
     let pool = pool_at(alloc, value)?;

@@ -9,11 +9,13 @@ mod fault;
 mod fs_forms;
 mod io_forms;
 mod members;
+mod number;
 mod pool_forms;
 mod read;
+mod value;
 mod word;
 
 pub use call_name::CallName;
 pub use fault::LineFault;
-pub use read::read_call;
+pub use read::{read_call, read_call_with};
 pub use word::call_word;

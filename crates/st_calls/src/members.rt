@@ -1,17 +1,22 @@
 ghost use Rattle.std.specs.Prelude.{◌≡◌, option_map, option_copied};
-ghost use Rattle.serde_json.specs.View.{view, items_view};
+ghost use Rattle.st_calls.specs.inner.View.{view, items_view};
 ghost use Rattle.st_calls.specs.Gives.{Gives};
 ghost use Rattle.st_calls.specs.Members.{text_at, name_of, name_at, number_at, number_or_null, number_if_told, optional_number_at, flag_at, each, items_at, path_of, paths_at, name_item, names_at};
 
 use crate::fault::LineFault;
-use serde_json::Value;
+use crate::value::{as_flag, as_items, as_number, as_text, get, is_null};
+use json::Value;
 use st_units::{DevList, DevPath, Member, Name, NameFault, NameList, PathFault};
 use std::alloc::Global;
 
-pub(crate) fn text_at<'a>(value: &'a Value, key: &str, member: Member) -> Result<&'a str, LineFault>
+pub(crate) fn text_at<'a>(
+    value: &Value<'a>,
+    key: &str,
+    member: Member,
+) -> Result<&'a str, LineFault>
     ensures { Gives (λ text. text.now) result (text_at member key.now (view value.now)) }
 {
-    match value.get(key).and_then(Value::as_str) {
+    match get(value, key).and_then(as_text) {
         Some(text) => Ok(text),
         None => Err(LineFault::BadCall(member)),
     }
@@ -30,7 +35,7 @@ fn name_of(alloc: Global, text: &str, member: Member) -> Result<Name, LineFault>
 #[tactic(auto, unfolding(crate::specs::Members::name_at))]
 pub(crate) fn name_at(
     alloc: Global,
-    value: &Value,
+    value: &Value<'_>,
     key: &str,
     member: Member,
 ) -> Result<Name, LineFault>
@@ -40,22 +45,22 @@ pub(crate) fn name_at(
 }
 
 #[tactic(auto, unfolding(crate::specs::Members::number_at))]
-pub(crate) fn number_at(value: &Value, key: &str, member: Member) -> Result<u64, LineFault>
+pub(crate) fn number_at(value: &Value<'_>, key: &str, member: Member) -> Result<u64, LineFault>
     ensures { Gives (λ number. number) result (number_at member key.now (view value.now)) }
 {
-    match value.get(key).and_then(Value::as_u64) {
+    match get(value, key).and_then(as_number) {
         Some(number) => Ok(number),
         None => Err(LineFault::BadCall(member)),
     }
 }
 
-fn number_or_null(value: &Value, member: Member) -> Result<Option<u64>, LineFault>
+fn number_or_null(value: &Value<'_>, member: Member) -> Result<Option<u64>, LineFault>
     ensures { Gives (λ number. number) result (number_or_null member (view value.now)) }
 {
-    if value.is_null() {
+    if is_null(value) {
         return Ok(None);
     }
-    match value.as_u64() {
+    match as_number(value) {
         Some(number) => Ok(Some(number)),
         None => Err(LineFault::BadCall(member)),
     }
@@ -64,37 +69,37 @@ fn number_or_null(value: &Value, member: Member) -> Result<Option<u64>, LineFaul
 /// A number, or none where it is absent or null.
 #[tactic(auto, unfolding(crate::specs::Members::optional_number_at))]
 pub(crate) fn optional_number_at(
-    value: &Value,
+    value: &Value<'_>,
     key: &str,
     member: Member,
 ) -> Result<Option<u64>, LineFault>
     ensures { Gives (λ number. number) result (optional_number_at member key.now (view value.now)) }
 {
-    match value.get(key) {
+    match get(value, key) {
         Some(value) => number_or_null(value, member),
         None => Ok(None),
     }
 }
 
 #[tactic(auto, unfolding(crate::specs::Members::flag_at))]
-pub(crate) fn flag_at(value: &Value, key: &str, member: Member) -> Result<bool, LineFault>
+pub(crate) fn flag_at(value: &Value<'_>, key: &str, member: Member) -> Result<bool, LineFault>
     ensures { Gives (λ flag. flag) result (flag_at member key.now (view value.now)) }
 {
-    match value.get(key).and_then(Value::as_bool) {
+    match get(value, key).and_then(as_flag) {
         Some(flag) => Ok(flag),
         None => Err(LineFault::BadCall(member)),
     }
 }
 
-pub(crate) fn items_at<'a>(
-    value: &'a Value,
+pub(crate) fn items_at<'v, 'a>(
+    value: &'v Value<'a>,
     key: &str,
     member: Member,
-) -> Result<&'a [Value], LineFault>
+) -> Result<&'v [Value<'a>], LineFault>
     ensures { Gives (λ items. items_view items.now) result (items_at member key.now (view value.now)) }
 {
-    match value.get(key).and_then(Value::as_array) {
-        Some(items) => Ok(items.as_slice()),
+    match get(value, key).and_then(as_items) {
+        Some(items) => Ok(items),
         None => Err(LineFault::BadCall(member)),
     }
 }
@@ -103,7 +108,7 @@ pub(crate) fn items_at<'a>(
 fn path_of(alloc: Global, value: &Value) -> Result<DevPath, LineFault>
     ensures { Gives (λ path. path) result (path_of (view value.now)) }
 {
-    let Some(text) = value.as_str() else {
+    let Some(text) = as_text(value) else {
         return Err(LineFault::BadCall(Member::Devices));
     };
     match DevPath::read(alloc, text.as_bytes()) {
@@ -113,7 +118,7 @@ fn path_of(alloc: Global, value: &Value) -> Result<DevPath, LineFault>
     }
 }
 
-fn paths_of(alloc: Global, values: &[Value]) -> Result<DevList, LineFault>
+fn paths_of(alloc: Global, values: &[Value<'_>]) -> Result<DevList, LineFault>
     ensures { Gives (λ paths. paths) result (each path_of (items_view values.now)) }
 {
     let mut list = DevList::make(alloc);
@@ -127,23 +132,23 @@ fn paths_of(alloc: Global, values: &[Value]) -> Result<DevList, LineFault>
 }
 
 #[tactic(auto, unfolding(crate::specs::Members::paths_at))]
-pub(crate) fn paths_at(alloc: Global, value: &Value, key: &str) -> Result<DevList, LineFault>
+pub(crate) fn paths_at(alloc: Global, value: &Value<'_>, key: &str) -> Result<DevList, LineFault>
     ensures { Gives (λ paths. paths) result (paths_at key.now (view value.now)) }
 {
     paths_of(alloc, items_at(value, key, Member::Devices)?)
 }
 
 #[tactic(auto, unfolding(crate::specs::Members::name_item))]
-fn name_item(alloc: Global, value: &Value, member: Member) -> Result<Name, LineFault>
+fn name_item(alloc: Global, value: &Value<'_>, member: Member) -> Result<Name, LineFault>
     ensures { Gives (λ name. name) result (name_item member (view value.now)) }
 {
-    match value.as_str() {
+    match as_text(value) {
         Some(text) => name_of(alloc, text, member),
         None => Err(LineFault::BadCall(member)),
     }
 }
 
-fn names_of(alloc: Global, values: &[Value], member: Member) -> Result<NameList, LineFault>
+fn names_of(alloc: Global, values: &[Value<'_>], member: Member) -> Result<NameList, LineFault>
     ensures { Gives (λ names. names) result (each (name_item member) (items_view values.now)) }
 {
     let mut list = NameList::make(alloc);
@@ -159,7 +164,7 @@ fn names_of(alloc: Global, values: &[Value], member: Member) -> Result<NameList,
 #[tactic(auto, unfolding(crate::specs::Members::names_at))]
 pub(crate) fn names_at(
     alloc: Global,
-    value: &Value,
+    value: &Value<'_>,
     key: &str,
     member: Member,
 ) -> Result<NameList, LineFault>

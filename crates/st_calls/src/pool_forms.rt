@@ -1,5 +1,5 @@
 ghost use Rattle.std.specs.Prelude.{◌≡◌, Some, IfOk, IfErr, option_map, option_copied};
-ghost use Rattle.serde_json.specs.View.{view};
+ghost use Rattle.st_calls.specs.inner.View.{view};
 ghost use Rattle.st_calls.specs.Gives.{Gives};
 ghost use Rattle.st_calls.specs.PoolForms.{pool_at, own_name_at, create_pool, destroy_pool, stop_pool, is_uuid_word, is_uuid_told, id_type, uuid_of, id_of, start_pool, rename_pool, devices_call, pool_call, pools_at, pool_reports};
 ghost use Rattle.st_calls.specs.Members.{paths_at};
@@ -8,7 +8,8 @@ ghost use Rattle.st_model.specs.declared.call.Call.TheVariants as calls;
 
 use crate::fault::LineFault;
 use crate::members::{name_at, names_at, paths_at, text_at};
-use serde_json::Value;
+use crate::value::{as_text, get};
+use json::Value;
 use st_model::{Call, PoolId};
 use st_units::{DevList, Member, Name, NameList};
 use st_wants::{Names, NamesFault};
@@ -16,20 +17,20 @@ use std::alloc::Global;
 use uuid::Uuid;
 
 /// The one pool that most calls are on.
-pub(crate) fn pool_at(alloc: Global, value: &Value) -> Result<Name, LineFault>
+pub(crate) fn pool_at(alloc: Global, value: &Value<'_>) -> Result<Name, LineFault>
     ensures { Gives (λ name. name) result (pool_at (view value.now)) }
 {
     name_at(alloc, value, "pool", Member::Pool)
 }
 
-pub(crate) fn own_name_at(alloc: Global, value: &Value) -> Result<Name, LineFault>
+pub(crate) fn own_name_at(alloc: Global, value: &Value<'_>) -> Result<Name, LineFault>
     ensures { Gives (λ name. name) result (own_name_at (view value.now)) }
 {
     name_at(alloc, value, "name", Member::Name)
 }
 
 #[tactic(auto, unfolding(crate::specs::PoolForms::create_pool))]
-pub(crate) fn create_pool(alloc: Global, value: &Value) -> Result<Call, LineFault>
+pub(crate) fn create_pool(alloc: Global, value: &Value<'_>) -> Result<Call, LineFault>
     ensures { Gives (λ call. call) result (create_pool (view value.now)) }
 {
     let name = own_name_at(alloc, value)?;
@@ -38,7 +39,7 @@ pub(crate) fn create_pool(alloc: Global, value: &Value) -> Result<Call, LineFaul
 }
 
 #[tactic(auto, unfolding(crate::specs::PoolForms::destroy_pool))]
-pub(crate) fn destroy_pool(alloc: Global, value: &Value) -> Result<Call, LineFault>
+pub(crate) fn destroy_pool(alloc: Global, value: &Value<'_>) -> Result<Call, LineFault>
     ensures { Gives (λ call. call) result (destroy_pool (view value.now)) }
 {
     let name = own_name_at(alloc, value)?;
@@ -46,7 +47,7 @@ pub(crate) fn destroy_pool(alloc: Global, value: &Value) -> Result<Call, LineFau
 }
 
 #[tactic(auto, unfolding(crate::specs::PoolForms::stop_pool))]
-pub(crate) fn stop_pool(alloc: Global, value: &Value) -> Result<Call, LineFault>
+pub(crate) fn stop_pool(alloc: Global, value: &Value<'_>) -> Result<Call, LineFault>
     ensures { Gives (λ call. call) result (stop_pool (view value.now)) }
 {
     let name = own_name_at(alloc, value)?;
@@ -63,13 +64,13 @@ fn is_uuid_word(word: &str) -> Result<bool, LineFault>
     }
 }
 
-fn is_uuid_told(id_type: Option<&Value>) -> Result<bool, LineFault>
+fn is_uuid_told(id_type: Option<&Value<'_>>) -> Result<bool, LineFault>
     ensures { Gives (λ told. told) result (is_uuid_told (option_map view (option_copied id_type.entry))) }
 {
     let Some(value) = id_type else {
         return Ok(false);
     };
-    match value.as_str() {
+    match as_text(value) {
         Some(word) => is_uuid_word(word),
         None => Err(LineFault::BadCall(Member::IdType)),
     }
@@ -77,10 +78,10 @@ fn is_uuid_told(id_type: Option<&Value>) -> Result<bool, LineFault>
 
 /// Whether the id is a UUID.
 #[tactic(auto, unfolding(crate::specs::PoolForms::id_type))]
-fn id_type(value: &Value) -> Result<bool, LineFault>
+fn id_type(value: &Value<'_>) -> Result<bool, LineFault>
     ensures { Gives (λ told. told) result (id_type (view value.now)) }
 {
-    is_uuid_told(value.get("id_type"))
+    is_uuid_told(get(value, "id_type"))
 }
 
 fn uuid_of(text: &str) -> Result<PoolId, LineFault>
@@ -92,7 +93,7 @@ fn uuid_of(text: &str) -> Result<PoolId, LineFault>
     }
 }
 
-fn id_of(alloc: Global, is_uuid: bool, value: &Value) -> Result<PoolId, LineFault>
+fn id_of(alloc: Global, is_uuid: bool, value: &Value<'_>) -> Result<PoolId, LineFault>
     ensures { Gives (λ id. id) result (id_of is_uuid (view value.now)) }
 {
     if is_uuid {
@@ -103,7 +104,7 @@ fn id_of(alloc: Global, is_uuid: bool, value: &Value) -> Result<PoolId, LineFaul
 }
 
 #[tactic(auto, unfolding(crate::specs::PoolForms::start_pool))]
-pub(crate) fn start_pool(alloc: Global, value: &Value) -> Result<Call, LineFault>
+pub(crate) fn start_pool(alloc: Global, value: &Value<'_>) -> Result<Call, LineFault>
     ensures { Gives (λ call. call) result (start_pool (view value.now)) }
 {
     let is_uuid = id_type(value)?;
@@ -112,7 +113,7 @@ pub(crate) fn start_pool(alloc: Global, value: &Value) -> Result<Call, LineFault
 }
 
 #[tactic(auto, unfolding(crate::specs::PoolForms::rename_pool))]
-pub(crate) fn rename_pool(alloc: Global, value: &Value) -> Result<Call, LineFault>
+pub(crate) fn rename_pool(alloc: Global, value: &Value<'_>) -> Result<Call, LineFault>
     ensures { Gives (λ call. call) result (rename_pool (view value.now)) }
 {
     let name = own_name_at(alloc, value)?;
@@ -121,7 +122,7 @@ pub(crate) fn rename_pool(alloc: Global, value: &Value) -> Result<Call, LineFaul
 }
 
 #[tactic(auto, unfolding(crate::specs::PoolForms::devices_call))]
-pub(crate) fn add_data_devs(alloc: Global, value: &Value) -> Result<Call, LineFault>
+pub(crate) fn add_data_devs(alloc: Global, value: &Value<'_>) -> Result<Call, LineFault>
     ensures { Gives (λ call. call) result (devices_call calls.AddDataDevs (view value.now)) }
 {
     let pool = pool_at(alloc, value)?;
@@ -130,7 +131,7 @@ pub(crate) fn add_data_devs(alloc: Global, value: &Value) -> Result<Call, LineFa
 }
 
 #[tactic(auto, unfolding(crate::specs::PoolForms::devices_call))]
-pub(crate) fn init_cache(alloc: Global, value: &Value) -> Result<Call, LineFault>
+pub(crate) fn init_cache(alloc: Global, value: &Value<'_>) -> Result<Call, LineFault>
     ensures { Gives (λ call. call) result (devices_call calls.InitCache (view value.now)) }
 {
     let pool = pool_at(alloc, value)?;
@@ -139,7 +140,7 @@ pub(crate) fn init_cache(alloc: Global, value: &Value) -> Result<Call, LineFault
 }
 
 #[tactic(auto, unfolding(crate::specs::PoolForms::devices_call))]
-pub(crate) fn add_cache_devs(alloc: Global, value: &Value) -> Result<Call, LineFault>
+pub(crate) fn add_cache_devs(alloc: Global, value: &Value<'_>) -> Result<Call, LineFault>
     ensures { Gives (λ call. call) result (devices_call calls.AddCacheDevs (view value.now)) }
 {
     let pool = pool_at(alloc, value)?;
@@ -148,7 +149,7 @@ pub(crate) fn add_cache_devs(alloc: Global, value: &Value) -> Result<Call, LineF
 }
 
 #[tactic(auto, unfolding(crate::specs::PoolForms::pool_call))]
-pub(crate) fn check(alloc: Global, value: &Value) -> Result<Call, LineFault>
+pub(crate) fn check(alloc: Global, value: &Value<'_>) -> Result<Call, LineFault>
     ensures { Gives (λ call. call) result (pool_call calls.Check (view value.now)) }
 {
     let pool = pool_at(alloc, value)?;
@@ -156,7 +157,7 @@ pub(crate) fn check(alloc: Global, value: &Value) -> Result<Call, LineFault>
 }
 
 #[tactic(auto, unfolding(crate::specs::PoolForms::pool_call))]
-pub(crate) fn pool_report(alloc: Global, value: &Value) -> Result<Call, LineFault>
+pub(crate) fn pool_report(alloc: Global, value: &Value<'_>) -> Result<Call, LineFault>
     ensures { Gives (λ call. call) result (pool_call calls.PoolReport (view value.now)) }
 {
     let pool = pool_at(alloc, value)?;
@@ -176,7 +177,7 @@ fn are_few(pools: &NameList) -> Result<bool, LineFault>
 }
 
 #[tactic(auto, unfolding(crate::specs::PoolForms::pools_at))]
-fn pools_at(alloc: Global, value: &Value) -> Result<NameList, LineFault>
+fn pools_at(alloc: Global, value: &Value<'_>) -> Result<NameList, LineFault>
     ensures { Gives (λ pools. pools) result (pools_at (view value.now)) }
 {
     let pools = names_at(alloc, value, "pools", Member::Pools)?;
@@ -188,7 +189,7 @@ fn pools_at(alloc: Global, value: &Value) -> Result<NameList, LineFault>
 }
 
 #[tactic(auto, unfolding(crate::specs::PoolForms::pool_reports))]
-pub(crate) fn pool_reports(alloc: Global, value: &Value) -> Result<Call, LineFault>
+pub(crate) fn pool_reports(alloc: Global, value: &Value<'_>) -> Result<Call, LineFault>
     ensures { Gives (λ call. call) result (pool_reports (view value.now)) }
 {
     let pools = pools_at(alloc, value)?;

@@ -10,6 +10,7 @@ ghost use Rattle.st_check.specs.Checked.{IsCheck, checked, is_ok, numbered_line,
 
 use crate::summary::{count_ok, print_summary};
 use crate::verdict::verdict;
+use json::Scratch;
 use st_lines::{Limit, Lines, Outlet, Sink, Source, WriteStop, read_lines};
 use st_replies::reply_line;
 use st_status::Status;
@@ -30,9 +31,10 @@ fn print_verdicts<K: Sink>(
     ensures fault { result ≡ Err WriteStop.Fault → Rose (K.faults sink.old) (K.faults sink.new) }
     ensures later { K.faults sink.old ≤ K.faults sink.new }
 {
+    let mut scratch = Scratch::new(alloc);
     let mut oks = 0u64;
     for i in 0..lines.len() {
-        let reply = verdict(alloc, lines.at(i), lanes)?;
+        let reply = verdict(alloc, &mut scratch, lines.at(i), lanes)?;
         let text = reply_line(alloc, i as u64 + 1, &reply)?;
         outlet.print(sink, text.items())?;
         oks = count_ok(oks, reply.code == 0);

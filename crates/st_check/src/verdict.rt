@@ -1,7 +1,8 @@
 ghost use Rattle.std.specs.Prelude.{◌≡◌, IfOk};
 ghost use Rattle.st_check.specs.Checked.{fault_reply, verdict};
 
-use st_calls::{LineFault, read_call};
+use json::Scratch;
+use st_calls::{LineFault, read_call_with};
 use st_model::{Given, Reply};
 use st_units::{Cause, NoMemory};
 use std::alloc::Global;
@@ -18,10 +19,15 @@ pub fn fault_reply(fault: LineFault) -> Reply
 }
 
 /// The reply to a line: what is wrong with it, or that it is accepted.
-pub(crate) fn verdict(alloc: Global, line: &[u8], lanes: u8) -> Result<Reply, NoMemory>
+pub(crate) fn verdict(
+    alloc: Global,
+    scratch: &mut Scratch,
+    line: &[u8],
+    lanes: u8,
+) -> Result<Reply, NoMemory>
     ensures { IfOk result (λ reply. reply ≡ verdict lanes line.now) }
 {
-    match read_call(alloc, line, lanes) {
+    match read_call_with(alloc, scratch, line, lanes) {
         Ok(_) => Ok(Reply::accepted(Given::Accepted)),
         Err(LineFault::OutOfMemory) => Err(NoMemory),
         Err(fault) => Ok(fault_reply(fault)),

@@ -8,3 +8,4 @@ pub mod Progress
 pub mod Prefix
 pub mod Printed
 pub mod Stays
+mod Feeds

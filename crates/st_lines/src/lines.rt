@@ -8,6 +8,7 @@ ghost use Rattle.st_lines.specs.Spans.{line_at, LiesIn};
 
 use crate::limit::{Limit, broken_by_line};
 use crate::read::ReadStop;
+use memchr::memchr;
 use st_units::NoMemory;
 use std::alloc::Global;
 use std::marker::Model;
@@ -104,5 +105,5 @@ fn line_len(text: &[u8]) -> usize
 fn first_feed(text: &[u8]) -> Option<usize>
     ensures { result ≡ position is_feed text.now }
 {
-    text.iter().position(|byte| *byte == b'\n')
+    memchr(b'\n', text)
 }

@@ -1,5 +1,5 @@
 use Rattle.std.proofs.Common.{◌≡◌, ◌++◌, drop, Ok}
-use Rattle.serde_json.specs.View.{items_view}
+use Rattle.st_calls.specs.inner.View.{items_view}
 use Rattle.st_calls.specs.Gives.{◌>>=◌}
 use Rattle.st_calls.specs.Members.{each}
 use Rattle.st_calls.specs.Members.{name_item}
