@@ -5,9 +5,10 @@ ghost use Rattle.st_laning.specs.inner.Running.{Answered, RanCall};
 
 use crate::answers::Answer;
 use crate::on_part::{RanPart, run_part};
+use json::Scratch;
 use st_alone::{Home, Taken};
 use st_board::EngineBoard;
-use st_calls::{LineFault, read_call};
+use st_calls::{LineFault, read_call_with};
 use st_model::{Call, Gate};
 use st_pool::Pool;
 use st_rack::Rack;
@@ -63,6 +64,7 @@ fn run_call<R: Rack, G: Gate>(
 /// Runs the call that the line is, where it is one.
 pub(crate) fn run_line<R: Rack, G: Gate>(
     alloc: Global,
+    scratch: &mut Scratch,
     gate: &G,
     lanes: u8,
     home: Home<Pool<R>, EngineBoard<R>>,
@@ -72,7 +74,7 @@ pub(crate) fn run_line<R: Rack, G: Gate>(
     ensures answered { IfOk result.answer (λ answer. Answered runs lanes number line.now home result.home answer) }
     ensures refused { OnErr result.answer (result.home ≡ home) }
 {
-    let (lane, call) = match read_call(alloc, line, lanes) {
+    let (lane, call) = match read_call_with(alloc, scratch, line, lanes) {
         Ok(read) => read,
         Err(LineFault::OutOfMemory) => {
             return LineDone {

@@ -7,6 +7,7 @@ ghost use Rattle.st_laning.specs.inner.Running.{AreAnswers};
 
 use crate::answers::Answer;
 use crate::calling::{LineDone, run_line};
+use json::Scratch;
 use st_alone::Home;
 use st_board::EngineBoard;
 use st_lines::Lines;
@@ -49,13 +50,22 @@ pub fn run_lines<R: Rack, G: Gate>(
     ensures answers { IfOk result.answers (λ answers. AreAnswers runs lanes lines.now result.home.log answers) }
     ensures all { IfOk result.answers (λ answers. length answers ≡ length lines.now) }
 {
+    let mut scratch = Scratch::new(alloc);
     let mut home = home;
     let mut answers = ItemList::make(alloc);
     for i in 0..lines.len() {
         let LineDone {
             home: after,
             answer,
-        } = run_line(alloc, gate, lanes, home, i as u64 + 1, lines.at(i));
+        } = run_line(
+            alloc,
+            &mut scratch,
+            gate,
+            lanes,
+            home,
+            i as u64 + 1,
+            lines.at(i),
+        );
         home = after;
         if let Err(refused) = note(&mut answers, answer) {
             return RanLines {
