@@ -1,0 +1,5 @@
+pub mod Blocks
+pub mod Places
+pub mod Lists
+pub mod Copies
+pub mod Settled
