@@ -2,7 +2,6 @@
 
 use sha2::{Digest, Sha256};
 use st_rack::Rack;
-use st_units::DevPath;
 
 /// The sectors of a device.
 const SECTORS: u64 = 65_536;
@@ -11,10 +10,14 @@ const SECTORS: u64 = 65_536;
 pub const SHOWN: usize = 2_097_152;
 
 /// The seal of the first bytes of a device; None where it isn't there, or fails. The buffer is for these bytes.
-pub fn seal_of<R: Rack>(rack: &mut R, dev: &DevPath, buf: &mut [u8]) -> Option<[u8; 32]> {
-    if rack.sectors(dev) != Some(SECTORS) || buf.len() != SHOWN {
+pub fn seal_of<R: Rack>(rack: &mut R, index: usize, buf: &mut [u8]) -> Option<[u8; 32]> {
+    if index >= rack.devices() || buf.len() != SHOWN {
         return None;
     }
-    rack.read(dev, 0, buf).ok()?;
+    let dev = rack.path_of(index).copy().ok()?;
+    if rack.sectors(&dev) != Some(SECTORS) {
+        return None;
+    }
+    rack.read(&dev, 0, buf).ok()?;
     Some(Sha256::digest(&*buf))
 }
