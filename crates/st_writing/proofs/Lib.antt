@@ -1,0 +1,4 @@
+pub mod Mappings
+pub mod Puts
+pub mod Wanting
+pub mod Overwriting
